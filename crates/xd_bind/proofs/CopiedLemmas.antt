@@ -3,7 +3,7 @@ use Rattle.std.proofs.Common.{◌≡◌, ◌≢◌, ℕ, ◌+◌, ◌<◌, ⊎_e
 use Rattle.std.proofs.lemmas.Bool.{cases_eq}
 use Rattle.xd_auto.specs.declared.auto.State.{State}
 use Rattle.xd_auto.specs.Automaton.{Automaton, moves_at, no_moves}
-use Rattle.xd_bind.specs.Blocks.{IsChange, with_labels, with_texts}
+use Rattle.xd_bind.specs.Changes.{IsChange, with_labels, with_texts}
 
 -- one more state has its moves
 pub copied_more : (a made mid new : Automaton) (count : ℕ) (at : State) → at.number ≡ count → moves_at made at ≡ no_moves (moves_at a at).last

@@ -1,10 +1,6 @@
 pub mod MarkLemmas
-pub mod ShiftLemmas
-pub mod Choices
-pub mod Traced
-pub mod FreePart
-pub mod Changes
+pub mod Automata
+pub mod ChangeLemmas
 pub mod IsSearchLemmas
-pub mod IsProjectionLemmas
 pub mod CopiedLemmas
 pub mod SameOwned

@@ -1,7 +1,6 @@
 pub mod Owning
 pub mod Marks
 pub mod Projection
-pub mod Traced
-pub mod Shifts
-pub mod Blocks
+pub mod Changes
+pub mod Ahead
 pub mod Search

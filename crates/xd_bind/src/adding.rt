@@ -3,7 +3,7 @@
 ghost use Rattle.std.specs.Prelude.{◌≡◌, ◌++◌, OnOk, map};
 ghost use Rattle.std.specs.List.{All};
 ghost use Rattle.xd_auto.specs.Automaton.{ChangesOnly, Extends, IsState, moves_at, no_moves};
-ghost use Rattle.xd_bind.specs.Blocks.{IsChange, with_labels, with_texts};
+ghost use Rattle.xd_bind.specs.Changes.{IsChange, with_labels, with_texts};
 
 use xd_auto::{Auto, LabelMove, State, TextMove};
 use xd_doc::NoMemory;

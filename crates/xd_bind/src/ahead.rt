@@ -1,45 +1,21 @@
 //! The states where the items of a variable may begin.
 
-ghost use Rattle.std.specs.Prelude.{◌≡◌, ℕ, ◌+◌, ◌<◌, ◌≤◌, Bool, true, IfOk, OnOk, length, take};
+ghost use Rattle.std.specs.Prelude.{◌≡◌, ◌≤◌, Bool, true, IfOk, OnOk, length};
 ghost use Rattle.std.specs.List.{All};
 ghost use Rattle.xd_auto.specs.declared.auto.State.{State as StateView};
-ghost use Rattle.xd_auto.specs.Automaton.{IsState, moves_at, state_number};
-ghost use Rattle.xd_bind.specs.Marks.{mark_of};
-ghost use Rattle.xd_bind.specs.Shifts.{IsLayer, free_at};
-ghost use Rattle.xd_bind.specs.Search.{ElementsMarked, Grows, HasMark, IsFollowed, IsSearched, IsSideOf, IsTextFollowed, LeadsAhead, TextsMarked};
+ghost use Rattle.xd_auto.specs.Automaton.{IsState, moves_at};
+ghost use Rattle.xd_empty.specs.Parts.{is_marked};
+ghost use Rattle.xd_bind.specs.Search.{ElementsMarked, Grows, HasMark, IsFollowed, IsSideOf, IsTextFollowed, LeadsAhead, TextsMarked};
+ghost use Rattle.xd_bind.specs.Ahead.{IsSearched};
 
 use crate::holds::Holds;
-use crate::layer::Layer;
 use std::alloc::Global;
 use xd_auto::{Auto, LabelMove, State, TextMove};
 use xd_auto_pairs::MoveKind;
 use xd_doc::NoMemory;
-use xd_least::LeastInhabitants;
 
-/// Which states of a layer can be completed without a variable: from the base on the marks say so,
-/// and of older states what is known.
-#[derive(Clone, Copy)]
-pub struct FreeStates<'a> {
-    pub base: usize,
-    pub marks: &'a [bool],
-    pub known: &'a LeastInhabitants,
-}
-
-impl FreeStates<'_> {
-    /// Whether a state can be.
-    fn has(&self, state: State) -> bool
-        requires { state_number state < self.now.base + length self.now.marks.now }
-        ensures { result ≡ free_at self.now.known.now self.now.base self.now.marks.now state }
-    {
-        if state.number() < self.base {
-            return self.known.document(state).is_some();
-        }
-        self.marks[state.number() - self.base]
-    }
-}
-
-/// States in the order in which they were found, and for each state of a layer, from its base on,
-/// whether it was found.
+/// States in the order in which they were found, and for each state of the automaton whether it was
+/// found.
 #[derive(Drop)]
 struct Search {
     order: Vec<State>,
@@ -48,12 +24,12 @@ struct Search {
 
 impl Search {
     /// Finds a state.
-    fn visit(&mut self, base: usize, state: State) -> Result<(), NoMemory>
-        requires { HasMark base self.old.marks.items state }
-        ensures grows { OnOk result (Grows base (λ t. t ≡ state) self.old.order.items self.old.marks.items self.new.order.items self.new.marks.items) }
-        ensures marked { OnOk result (mark_of base self.new.marks.items state ≡ true) }
+    fn visit(&mut self, state: State) -> Result<(), NoMemory>
+        requires { HasMark self.old.marks.items state }
+        ensures grows { OnOk result (Grows (λ t. t ≡ state) self.old.order.items self.old.marks.items self.new.order.items self.new.marks.items) }
+        ensures marked { OnOk result (is_marked self.new.marks.items state ≡ true) }
     {
-        let place = state.number() - base;
+        let place = state.number();
         if !self.marks[place] {
             self.order.push(state)?;
             self.marks[place] = true;
@@ -62,43 +38,43 @@ impl Search {
     }
 
     /// Finds a state where `free` is true.
-    fn visit_if(&mut self, base: usize, free: bool, state: State) -> Result<(), NoMemory>
-        requires { HasMark base self.old.marks.items state }
-        ensures grows { OnOk result (Grows base (λ t. (free ≡ true) × (t ≡ state)) self.old.order.items self.old.marks.items self.new.order.items self.new.marks.items) }
-        ensures marked { OnOk result (free ≡ true → mark_of base self.new.marks.items state ≡ true) }
+    fn visit_if(&mut self, free: bool, state: State) -> Result<(), NoMemory>
+        requires { HasMark self.old.marks.items state }
+        ensures grows { OnOk result (Grows (λ t. (free ≡ true) × (t ≡ state)) self.old.order.items self.old.marks.items self.new.order.items self.new.marks.items) }
+        ensures marked { OnOk result (free ≡ true → is_marked self.new.marks.items state ≡ true) }
     {
         if !free {
             return Ok(());
         }
-        self.visit(base, state)?;
+        self.visit(state)?;
         Ok(())
     }
 
     /// Whether it has found a state, if `free` is true.
-    fn has_if(&self, base: usize, free: bool, state: State) -> bool
-        requires { HasMark base self.now.marks.items state }
-        ensures { result ≡ true → free ≡ true → mark_of base self.now.marks.items state ≡ true }
+    fn has_if(&self, free: bool, state: State) -> bool
+        requires { HasMark self.now.marks.items state }
+        ensures { result ≡ true → free ≡ true → is_marked self.now.marks.items state ≡ true }
     {
-        !free || self.marks[state.number() - base]
+        !free || self.marks[state.number()]
     }
 
     /// Whether it has found what a move on a text leads to.
-    fn has_text_move(&self, base: usize, step: &TextMove) -> bool
-        requires { HasMark base self.now.marks.items step.now.rest }
-        ensures { result ≡ true → IsTextFollowed base self.now.marks.items step.now }
+    fn has_text_move(&self, step: &TextMove) -> bool
+        requires { HasMark self.now.marks.items step.now.rest }
+        ensures { result ≡ true → IsTextFollowed self.now.marks.items step.now }
     {
         step.words.has_some();
-        self.has_if(base, true, step.rest)
+        self.has_if(true, step.rest)
     }
 
     /// Finds what a move on a text leads to.
-    fn visit_text_move(&mut self, base: usize, step: &TextMove) -> Result<(), NoMemory>
-        requires { HasMark base self.old.marks.items step.now.rest }
-        ensures grows { OnOk result (Grows base (λ t. t ≡ step.now.rest) self.old.order.items self.old.marks.items self.new.order.items self.new.marks.items) }
-        ensures marked { OnOk result (IsTextFollowed base self.new.marks.items step.now) }
+    fn visit_text_move(&mut self, step: &TextMove) -> Result<(), NoMemory>
+        requires { HasMark self.old.marks.items step.now.rest }
+        ensures grows { OnOk result (Grows (λ t. t ≡ step.now.rest) self.old.order.items self.old.marks.items self.new.order.items self.new.marks.items) }
+        ensures marked { OnOk result (IsTextFollowed self.new.marks.items step.now) }
     {
         step.words.has_some();
-        self.visit(base, step.rest)?;
+        self.visit(step.rest)?;
         Ok(())
     }
 
@@ -108,20 +84,19 @@ impl Search {
         auto: &Auto,
         owner: &H,
         variable: usize,
-        base: usize,
         state: State,
     ) -> Result<(), NoMemory>
         requires state { IsState auto.now state }
-        requires rests { All (λ m. HasMark base self.old.marks.items m.rest) (moves_at auto.now state).texts }
-        ensures grows { OnOk result ((free : StateView → Bool) → Grows base (LeadsAhead (H.owned owner.now variable) base free state (moves_at auto.now state)) self.old.order.items self.old.marks.items self.new.order.items self.new.marks.items) }
-        ensures marked { OnOk result (TextsMarked (H.owned owner.now variable) base state (moves_at auto.now state).texts self.new.marks.items (length (moves_at auto.now state).texts)) }
+        requires rests { All (λ m. HasMark self.old.marks.items m.rest) (moves_at auto.now state).texts }
+        ensures grows { OnOk result ((free : StateView → Bool) → Grows (LeadsAhead (H.owned owner.now variable) free state (moves_at auto.now state)) self.old.order.items self.old.marks.items self.new.order.items self.new.marks.items) }
+        ensures marked { OnOk result (TextsMarked (H.owned owner.now variable) state (moves_at auto.now state).texts self.new.marks.items (length (moves_at auto.now state).texts)) }
     {
         let moves = auto.text_moves(state);
         for number in 0..moves.len() {
             let step = &moves[number];
-            if !self.has_text_move(base, step) {
+            if !self.has_text_move(step) {
                 if !owner.holds(state, MoveKind::Text, number, variable) {
-                    self.visit_text_move(base, step)?;
+                    self.visit_text_move(step)?;
                 }
             }
         }
@@ -129,37 +104,31 @@ impl Search {
     }
 
     /// Whether it has found what a move on an element leads to, where what it leaves aside is free.
-    fn has_move(&self, free: &FreeStates, step: &LabelMove) -> bool
-        requires room { length self.now.marks.items ≤ length free.now.marks.now }
-        requires content { state_number step.now.content < free.now.base + length self.now.marks.items }
-        requires rest { HasMark free.now.base self.now.marks.items step.now.rest }
-        ensures { result ≡ true → IsFollowed free.now.base (free_at free.now.known.now free.now.base free.now.marks.now) self.now.marks.items step.now }
+    fn has_move(&self, free: &[bool], step: &LabelMove) -> bool
+        requires room { length self.now.marks.items ≤ length free.now }
+        requires content { HasMark self.now.marks.items step.now.content }
+        requires rest { HasMark self.now.marks.items step.now.rest }
+        ensures { result ≡ true → IsFollowed (is_marked free.now) self.now.marks.items step.now }
     {
         step.class.has_some();
-        let past = free.has(step.content);
-        let found = self.has_if(free.base, past, step.rest);
-        if step.content.number() < free.base {
-            return found;
-        }
-        let into = free.has(step.rest);
-        found && self.has_if(free.base, into, step.content)
+        let past = free[step.content.number()];
+        let into = free[step.rest.number()];
+        self.has_if(past, step.rest) && self.has_if(into, step.content)
     }
 
     /// Finds what a move on an element leads to, where what it leaves aside is free.
-    fn visit_move(&mut self, free: &FreeStates, step: &LabelMove) -> Result<(), NoMemory>
-        requires room { length self.old.marks.items ≤ length free.now.marks.now }
-        requires content { state_number step.now.content < free.now.base + length self.old.marks.items }
-        requires rest { HasMark free.now.base self.old.marks.items step.now.rest }
-        ensures grows { OnOk result (Grows free.now.base (IsSideOf free.now.base (free_at free.now.known.now free.now.base free.now.marks.now) step.now) self.old.order.items self.old.marks.items self.new.order.items self.new.marks.items) }
-        ensures marked { OnOk result (IsFollowed free.now.base (free_at free.now.known.now free.now.base free.now.marks.now) self.new.marks.items step.now) }
+    fn visit_move(&mut self, free: &[bool], step: &LabelMove) -> Result<(), NoMemory>
+        requires room { length self.old.marks.items ≤ length free.now }
+        requires content { HasMark self.old.marks.items step.now.content }
+        requires rest { HasMark self.old.marks.items step.now.rest }
+        ensures grows { OnOk result (Grows (IsSideOf (is_marked free.now) step.now) self.old.order.items self.old.marks.items self.new.order.items self.new.marks.items) }
+        ensures marked { OnOk result (IsFollowed (is_marked free.now) self.new.marks.items step.now) }
     {
         step.class.has_some();
-        let past = free.has(step.content);
-        self.visit_if(free.base, past, step.rest)?;
-        if step.content.number() >= free.base {
-            let into = free.has(step.rest);
-            self.visit_if(free.base, into, step.content)?;
-        }
+        let past = free[step.content.number()];
+        let into = free[step.rest.number()];
+        self.visit_if(past, step.rest)?;
+        self.visit_if(into, step.content)?;
         Ok(())
     }
 
@@ -169,15 +138,15 @@ impl Search {
         auto: &Auto,
         owner: &H,
         variable: usize,
-        free: &FreeStates,
+        free: &[bool],
         state: State,
     ) -> Result<(), NoMemory>
         requires state { IsState auto.now state }
-        requires room { length self.old.marks.items ≤ length free.now.marks.now }
-        requires contents { All (λ m. state_number m.content < free.now.base + length self.old.marks.items) (moves_at auto.now state).labels }
-        requires rests { All (λ m. HasMark free.now.base self.old.marks.items m.rest) (moves_at auto.now state).labels }
-        ensures grows { OnOk result (Grows free.now.base (LeadsAhead (H.owned owner.now variable) free.now.base (free_at free.now.known.now free.now.base free.now.marks.now) state (moves_at auto.now state)) self.old.order.items self.old.marks.items self.new.order.items self.new.marks.items) }
-        ensures marked { OnOk result (ElementsMarked (H.owned owner.now variable) free.now.base (free_at free.now.known.now free.now.base free.now.marks.now) state (moves_at auto.now state).labels self.new.marks.items (length (moves_at auto.now state).labels)) }
+        requires room { length self.old.marks.items ≤ length free.now }
+        requires contents { All (λ m. HasMark self.old.marks.items m.content) (moves_at auto.now state).labels }
+        requires rests { All (λ m. HasMark self.old.marks.items m.rest) (moves_at auto.now state).labels }
+        ensures grows { OnOk result (Grows (LeadsAhead (H.owned owner.now variable) (is_marked free.now) state (moves_at auto.now state)) self.old.order.items self.old.marks.items self.new.order.items self.new.marks.items) }
+        ensures marked { OnOk result (ElementsMarked (H.owned owner.now variable) (is_marked free.now) state (moves_at auto.now state).labels self.new.marks.items (length (moves_at auto.now state).labels)) }
     {
         let moves = auto.label_moves(state);
         for number in 0..moves.len() {
@@ -192,30 +161,29 @@ impl Search {
     }
 }
 
-/// The states of a layer that lie ahead of its start, where `free` says which states can be
+/// The states of an automaton that lie ahead of a start, where `free` says which states can be
 /// completed without the variable. Fails only where memory is refused.
 pub fn states_ahead<H: Holds>(
     alloc: Global,
     auto: &Auto,
-    layer: Layer,
     owner: &H,
     variable: usize,
-    free: &FreeStates,
+    free: &[bool],
+    start: State,
 ) -> Result<Vec<State>, NoMemory>
-    requires layer { IsLayer auto.now layer }
-    requires base { free.now.base ≡ layer.base }
-    requires marks { layer.base + length free.now.marks.now ≡ layer.end }
-    ensures { IfOk result (λ ahead. IsSearched (take layer.end auto.now) (H.owned owner.now variable) layer.base layer.start (free_at free.now.known.now layer.base free.now.marks.now) ahead.items) }
+    requires start { IsState auto.now start }
+    requires free { length free.now ≡ length auto.now }
+    ensures { IfOk result (λ ahead. IsSearched auto.now (H.owned owner.now variable) start (is_marked free.now) ahead.items) }
 {
     let mut search = Search {
         order: Vec::new(alloc),
-        marks: vec![in alloc; false; layer.end - layer.base]?,
+        marks: vec![in alloc; false; auto.len()]?,
     };
-    search.visit(free.base, layer.start)?;
+    search.visit(start)?;
     let mut done = 0;
     while done < search.order.len() {
         let state = search.order[done];
-        search.visit_texts(auto, owner, variable, free.base, state)?;
+        search.visit_texts(auto, owner, variable, state)?;
         search.visit_elements(auto, owner, variable, free, state)?;
         done += 1;
     }

@@ -3,7 +3,7 @@
 ghost use Rattle.std.specs.Prelude.{◌≡◌, IfOk, OnOk, length};
 ghost use Rattle.xd_auto.specs.declared.auto.State.{State as StateView};
 ghost use Rattle.xd_auto.specs.Automaton.{IsState, moves_at, no_moves};
-ghost use Rattle.xd_bind.specs.Blocks.{IsChange, with_labels, with_texts};
+ghost use Rattle.xd_bind.specs.Changes.{IsChange, with_labels, with_texts};
 
 use std::alloc::Global;
 use xd_auto::{Auto, State};

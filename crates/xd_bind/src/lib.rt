@@ -5,13 +5,11 @@ mod adding;
 mod ahead;
 mod copying;
 mod holds;
-mod layer;
 mod tracks;
 
 pub use adding::{add_states, put_labels, put_texts};
-pub use ahead::{FreeStates, states_ahead};
+pub use ahead::states_ahead;
 pub use copying::copied;
 pub use holds::Holds;
-pub use layer::Layer;
 pub use tracks::{Binding, Given, Track, Tracks};
 pub use xd_auto_pairs::MoveKind;

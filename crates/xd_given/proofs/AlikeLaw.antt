@@ -17,8 +17,7 @@ use Rattle.xd_auto.specs.Runs.{Run, ends, takes_text, takes_element, IsAccepting
 use Rattle.xd_auto.proofs.Anys.{IsSomeAnd-parts}
 use Rattle.xd_auto_pairs.specs.Traces.{Owned, trace_of, content_or, rest_or, text_rest_or, IsFree}
 use Rattle.xd_auto.proofs.Anys.{and_both, and_left, and_right}
-use Rattle.xd_bind.specs.Blocks.{is_side}
-use Rattle.xd_given.specs.Alike.{IsAlike, IsAlikeFor, IsAlikeSet, IsIn, alike_label, alike_text, begins, marked_count}
+use Rattle.xd_given.specs.Alike.{IsAlike, IsAlikeFor, IsAlikeSet, IsIn, alike_label, alike_text, begins, marked_count, is_side}
 use Rattle.xd_given.specs.Owning.{GivesAlike, IsWhole, owns_first}
 
 side_is : (own v : Bool) → is_side own v ≡ true → v ≡ own

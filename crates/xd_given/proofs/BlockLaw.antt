@@ -1,30 +1,28 @@
 -- The states of a variable's blocks accept exactly what runs through points give it.
-use Rattle.std.proofs.Common.{ℕ, ◌<◌, ◌≡◌, inl, inr, Bool, true, false, ◌&&◌, cond, List, Some, refl, sym, ap, ◌∙◌, subst, arith}
+use Rattle.std.proofs.Common.{ℕ, ◌<◌, ◌≡◌, inl, inr, Bool, true, false, ◌&&◌, cond, List, Some, refl, sym, ap, ◌∙◌, subst}
 use Rattle.std.specs.List.{list_any, slice_get}
 use Rattle.xd_doc.specs.Document.{Document, empty, text, element, join, has_item, is_proper}
 use Rattle.xd_doc.specs.Classes.{class_has}
 use Rattle.xd_auto.specs.declared.auto.State.{State}
 use Rattle.xd_auto.specs.declared.auto.LabelMove.{LabelMove}
 use Rattle.xd_auto.specs.declared.auto.TextMove.{TextMove}
-use Rattle.xd_auto.specs.Automaton.{Automaton, StateMoves, accepts, moves_at}
+use Rattle.xd_auto.specs.Automaton.{Automaton, StateMoves, accepts, moves_at, takes_element, takes_word}
 use Rattle.xd_auto.proofs.Anys.{and_both, and_left, and_right, any_at, found}
 use Rattle.xd_auto_pairs.specs.Traces.{KeepsTogether, Owned, Trace, at_end, at_text, at_element, trace_of, held, IsFree, IsBlock, IsTogether}
-use Rattle.xd_bind.specs.Blocks.{IsAhead, is_start, past_text, past_element, in_content, is_side, label_onto, side_moves, text_onto}
-use Rattle.xd_bind.specs.Shifts.{onward}
-use Rattle.xd_bind.proofs.Choices.{any_choice, choice}
-use Rattle.xd_bind.proofs.FreePart.{leads_over, leads_past}
-use Rattle.xd_bind.proofs.Traced.{block_free, held_free, join_empty}
 use Rattle.xd_points.specs.declared.patterns.PatternStates.{PatternStates}
 use Rattle.xd_points.specs.declared.table.PointTable.{PointTable}
 use Rattle.xd_points.specs.Meaning.{ServePoints}
 use Rattle.xd_points.specs.Tables.{IsTableOf, is_left, left_of, pattern_of, point_count, point_means, points_of}
-use Rattle.xd_given.specs.Blocks.{AreBlocks, is_tail, there}
+use Rattle.xd_given.specs.Blocks.{AreBlocks, is_tail, there, onward}
 use Rattle.xd_given.specs.Outline.{IsDrawing, IsOutline}
 use Rattle.xd_given.specs.Owning.{LeavesOutAlike, owns_first, point_moves}
 use Rattle.xd_given.specs.Traced.{AcceptsGivenAt, AtLeft, FreeFrom, HasRunAt, IsGivenAt, Traced}
-use Rattle.xd_given.proofs.TraceLemmas.{Fits, fits, front, front_free, front_held, front_whole, whole_block, whole_held}
+use Rattle.xd_given.proofs.TraceLemmas.{Fits, fits, front, front_free, front_held, front_whole, whole_block, whole_held, block_free, held_free, join_empty}
 use Rattle.xd_given.proofs.PointTraces.{accepting, content_within, rest_within, run_of, run_on, text_within, traced, traced_means}
 use Rattle.xd_given.proofs.FreeLaw.{finishes, free_run, label_drawn, left_means, on_left, run_free, run_whole, text_drawn, true_false}
+use Rattle.xd_bind.specs.Ahead.{IsAhead, is_start, past_text, past_element, in_content}
+use Rattle.xd_given.specs.Chosen.{label_onto, owned_moves, text_onto}
+use Rattle.xd_given.proofs.ChosenLemmas.{any_choice, choice}
 
 -- a trace of the empty document is free
 fits_empty : (t : Trace) → Fits empty t → IsFree t
@@ -81,13 +79,13 @@ module _ (a : Automaton) (p : PatternStates) (t : PointTable) (b : Owned) (is : 
   is_free_at = free_run a p t b is leaf leaf_some leaf_none drawing drawn marked w.complete
 
   abbrev Ahead : State → Type 0
-  Ahead s = IsAhead drawing (point_moves t b) 0 marked start s
+  Ahead s = IsAhead drawing (point_moves t b) marked start s
 
-  pub ahead_within : (s : State) → IsAhead drawing (point_moves t b) 0 marked start s → s.number < point_count t
+  pub ahead_within : (s : State) → IsAhead drawing (point_moves t b) marked start s → s.number < point_count t
   ahead_within s is_start = begins
   ahead_within s (past_text q m n h there own) = let here = text_of q n m (ahead_within q h) there in text_within a p t b is q n m (ahead_within q h) here.0 here.1
   ahead_within s (past_element q m n h there own other) = let here = label_of q n m (ahead_within q h) there in rest_within a p t b is q n m (ahead_within q h) here.0 here.1
-  ahead_within s (in_content q m n h there own other up) = let here = label_of q n m (ahead_within q h) there in content_within a p t b is q n m (ahead_within q h) here.0 here.1
+  ahead_within s (in_content q m n h there own other) = let here = label_of q n m (ahead_within q h) there in content_within a p t b is q n m (ahead_within q h) here.0 here.1
 
   -- a run from the start with one from a state ahead in it, and nothing else of the variable
   record FromStart (d : Document) (t' : Trace) : Type 0 where
@@ -98,7 +96,7 @@ module _ (a : Automaton) (p : PatternStates) (t : PointTable) (b : Owned) (is : 
     same : held document trace ≡ held d t'
     back : (IsFree t' → ⊥) → IsTogether trace → IsTogether t'
 
-  from_start : (d : Document) (s : State) (r : Trace) → IsAhead drawing (point_moves t b) 0 marked start s → Traced a p t b d s r → FromStart d r
+  from_start : (d : Document) (s : State) (r : Trace) → IsAhead drawing (point_moves t b) marked start s → Traced a p t b d s r → FromStart d r
   from_start d s r is_start h = record { document = d; trace = r; traced = h; proper = λ e. e; same = refl; back = λ some k. k }
   from_start d s r (past_text q m n before there own) h =
       let here = text_of q n m (ahead_within q before) there in
@@ -126,7 +124,7 @@ module _ (a : Automaton) (p : PatternStates) (t : PointTable) (b : Owned) (is : 
         same = up.same ∙ ap (λ x. join x (held d r)) (held_free c.document c.trace c.free);
         back = λ some k. rest_back c.trace r some (up.back (λ f. some f.2) k);
       }
-  from_start d s r (in_content q m n before there own other up_to) h =
+  from_start d s r (in_content q m n before there own other) h =
       let here = label_of q n m (ahead_within q before) there in
       let l = w.searched.filled q m n before there own in
       let c = free_at m.rest (rest_within a p t b is q n m (ahead_within q before) here.0 here.1) other in
@@ -152,7 +150,7 @@ module _ (a : Automaton) (p : PatternStates) (t : PointTable) (b : Owned) (is : 
   -- the block of a trace, from a state ahead of the start
   record BlockOf (e : Document) : Type 0 where
     state : State
-    lies : IsAhead drawing (point_moves t b) 0 marked start state
+    lies : IsAhead drawing (point_moves t b) marked start state
     document : Document
     trace : Trace
     traced : Traced a p t b document state trace
@@ -169,7 +167,7 @@ module _ (a : Automaton) (p : PatternStates) (t : PointTable) (b : Owned) (is : 
   label_there : (s : State) (k : ℕ) (m : LabelMove) → s.number < point_count t → is_left p t s ≡ false → slice_get (moves_at (points_of t) s).labels k ≡ Some m → slice_get (moves_at drawing s).labels k ≡ Some m
   label_there s k m lt yet e = ap (λ (v : StateMoves). slice_get v.labels k) (drawn.other s lt yet) ∙ e
 
-  block_of : (d : Document) (s : State) (r : Trace) → IsAhead drawing (point_moves t b) 0 marked start s → Traced a p t b d s r → IsTogether r → BlockOf (held d r)
+  block_of : (d : Document) (s : State) (r : Trace) → IsAhead drawing (point_moves t b) marked start s → Traced a p t b d s r → IsTogether r → BlockOf (held d r)
   block_of empty s at_end q h k = record { state = s; lies = q; document = empty; trace = at_end; traced = h; block = tt; gives = refl }
   block_of empty s (at_text own r) q h k = absurd h
   block_of empty s (at_element own i r) q h k = absurd h
@@ -196,12 +194,12 @@ module _ (a : Automaton) (p : PatternStates) (t : PointTable) (b : Owned) (is : 
       let drawn = label_there s h.number h.step (ahead_within s q) yet h.there in
       let other = is_free_at d h.step.rest r (rest_within a p t b is s h.number h.step (ahead_within s q) yet h.there) h.rest f in
       block_as (held c i) _ (rw (e, held_free d r f) (sym (join_empty (held c i))))
-      (block_of c h.step.content i (in_content s h.step h.number q drawn (h.owned ∙ e) other (omega arith)) h.content k)
+      (block_of c h.step.content i (in_content s h.step h.number q drawn (h.owned ∙ e) other) h.content k)
 
   module _ (places blocks : List State) (base : ℕ) (new : Automaton) (means : (s : State) (d : Document) → s.number < point_count t → accepts new d (there places s) ≡ point_means a p t s d)
       (lefts : (s : State) (d : Document) → s.number < point_count t → accepts new d (left_of t s) ≡ accepts a d (left_of t s)) (are : AreBlocks p t b base blocks)
-      (filled : (s : State) → s.number < point_count t → moves_at new (onward base s) ≡ side_moves (point_moves t b) true (there places) (there blocks) s (moves_at drawing s) (marked s)) where
-    moves_there : (s : State) → s.number < point_count t → is_tail p t b s ≡ false → moves_at new (there blocks s) ≡ side_moves (point_moves t b) true (there places) (there blocks) s (moves_at drawing s) (marked s)
+      (filled : (s : State) → s.number < point_count t → moves_at new (onward base s) ≡ owned_moves (point_moves t b) (there places) (there blocks) s (moves_at drawing s) (marked s)) where
+    moves_there : (s : State) → s.number < point_count t → is_tail p t b s ≡ false → moves_at new (there blocks s) ≡ owned_moves (point_moves t b) (there places) (there blocks) s (moves_at drawing s) (marked s)
     moves_there s lt other = ap (moves_at new) (are.other s lt other) ∙ filled s lt
 
     -- a run from the point whose front is the document
@@ -243,8 +241,8 @@ module _ (a : Automaton) (p : PatternStates) (t : PointTable) (b : Owned) (is : 
         go : (v : Bool) → is_tail p t b s ≡ v → ((q : State) → q.number < point_count t → accepts new e (there blocks q) ≡ true → FrontFrom q e) → FrontFrom s (text c e)
         go true tail more = tail_front (text c e) s lt tail h
         go false other more =
-            let any = ap (λ (m : StateMoves). list_any (leads_past new c e) m.texts) (sym (moves_there s lt other)) ∙ h in
-            let one = choice (text_onto (there blocks)) (leads_past new c e) (λ n. is_side true ((point_moves t b).text s n)) (moves_at drawing s).texts any in
+            let any = ap (λ (m : StateMoves). list_any (takes_word new c e) m.texts) (sym (moves_there s lt other)) ∙ h in
+            let one = choice (text_onto (there blocks)) (takes_word new c e) ((point_moves t b).text s) (moves_at drawing s).texts any in
             let here = text_of s one.number one.item lt one.there in
             let f = more one.item.rest (text_within a p t b is s one.number one.item lt here.0 here.1) (and_right (class_has one.item.words c) _ one.passes) in
             record {
@@ -260,8 +258,8 @@ module _ (a : Automaton) (p : PatternStates) (t : PointTable) (b : Owned) (is : 
         go : (v : Bool) → is_tail p t b s ≡ v → ((q : State) → q.number < point_count t → accepts new e (there blocks q) ≡ true → FrontFrom q e) → FrontFrom s (element l c e)
         go true tail more = tail_front (element l c e) s lt tail h
         go false other more =
-            let any = ap (λ (m : StateMoves). list_any (leads_over new l c e) m.labels) (sym (moves_there s lt other)) ∙ h in
-            let one = choice (label_onto (there places) (there blocks)) (leads_over new l c e) (λ n. is_side true ((point_moves t b).element s n)) (moves_at drawing s).labels any in
+            let any = ap (λ (m : StateMoves). list_any (takes_element new l c e) m.labels) (sym (moves_there s lt other)) ∙ h in
+            let one = choice (label_onto (there places) (there blocks)) (takes_element new l c e) ((point_moves t b).element s) (moves_at drawing s).labels any in
             let here = label_of s one.number one.item lt one.there in
             let both = and_right (class_has one.item.class l) _ one.passes in
             let inner = content_within a p t b is s one.number one.item lt here.0 here.1 in
@@ -292,7 +290,7 @@ module _ (a : Automaton) (p : PatternStates) (t : PointTable) (b : Owned) (is : 
             }
 
     -- what the state of a point ahead of the start accepts is given
-    pub given_ahead : KeepsTogether p.auto b (pattern_of t start) → (e : Document) (s : State) → IsAhead drawing (point_moves t b) 0 marked start s → accepts new e (there blocks s) ≡ true → IsGivenAt a p t b start e
+    pub given_ahead : KeepsTogether p.auto b (pattern_of t start) → (e : Document) (s : State) → IsAhead drawing (point_moves t b) marked start s → accepts new e (there blocks s) ≡ true → IsGivenAt a p t b start e
     given_ahead keeps e s ahead h = go (has_item e) refl
       where
         f : FrontFrom s e
@@ -353,8 +351,8 @@ module _ (a : Automaton) (p : PatternStates) (t : PointTable) (b : Owned) (is : 
     accepts_block (text c d) s (at_text true r) lt (inr (yet, h)) (inl (e, k)) =
         let more = accepts_block d h.step.rest r (text_within a p t b is s h.number h.step lt yet h.there) h.rest k in
         by_tail (text c d) s (at_text true r) lt (inr (yet, h)) (λ other.
-        ap (λ (m : StateMoves). list_any (leads_past new c (held d r)) m.texts) (moves_there s lt other)
-        ∙ any_choice (text_onto (there blocks)) (leads_past new c (held d r)) (λ n. is_side true ((point_moves t b).text s n)) (moves_at drawing s).texts h.number h.step (text_there s h.number h.step lt yet h.there) h.owned
+        ap (λ (m : StateMoves). list_any (takes_word new c (held d r)) m.texts) (moves_there s lt other)
+        ∙ any_choice (text_onto (there blocks)) (takes_word new c (held d r)) ((point_moves t b).text s) (moves_at drawing s).texts h.number h.step (text_there s h.number h.step lt yet h.there) h.owned
         (and_both (class_has h.step.words c) _ h.has more))
     accepts_block (text c d) s (at_text false r) lt (inr (yet, h)) (inl (e, k)) = absurd (let no : false ≡ true = e in cc)
     accepts_block (text c d) s (at_text own r) lt (inr (yet, h)) (inr f) = stops (text c d) s (at_text own r) lt (inr (yet, h)) f
@@ -368,8 +366,8 @@ module _ (a : Automaton) (p : PatternStates) (t : PointTable) (b : Owned) (is : 
         let more = accepts_block d h.step.rest r (rest_within a p t b is s h.number h.step lt yet h.there) h.rest k in
         by_tail (element l c d) s (at_element true i r) lt (inr (yet, h)) (λ other.
         ap (λ x. accepts new (element l c (join x (held d r))) (there blocks s)) (held_free c i f)
-        ∙ ap (λ (m : StateMoves). list_any (leads_over new l c (held d r)) m.labels) (moves_there s lt other)
-        ∙ any_choice (label_onto (there places) (there blocks)) (leads_over new l c (held d r)) (λ n. is_side true ((point_moves t b).element s n)) (moves_at drawing s).labels h.number h.step
+        ∙ ap (λ (m : StateMoves). list_any (takes_element new l c (held d r)) m.labels) (moves_there s lt other)
+        ∙ any_choice (label_onto (there places) (there blocks)) (takes_element new l c (held d r)) ((point_moves t b).element s) (moves_at drawing s).labels h.number h.step
         (label_there s h.number h.step lt yet h.there) h.owned
         (and_both (class_has h.step.class l) _ h.has (and_both (accepts new c (there places h.step.content)) _ inside more)))
     accepts_block (element l c d) s (at_element false i r) lt (inr (yet, h)) (inl (e, f, k)) = absurd (let no : false ≡ true = e in cc)

@@ -1,15 +1,9 @@
 -- How the moves of points are drawn.
-use Rattle.std.proofs.Common.{ℕ, ◌+◌, ◌-◌, ◌≡◌, ◌≢◌, ⊎_elim, Bool, true, false, cond, nat_lt, List, Option, is_some, length, get_or, sym, ap, ◌∙◌, arith}
+use Rattle.std.proofs.Common.{ℕ, ◌+◌, ◌≡◌, ◌≢◌, ⊎_elim, true, false, length, sym, ap, ◌∙◌, arith}
 use Rattle.std.proofs.lemmas.Bool.{cases_eq}
-use Rattle.std.proofs.lemmas.Bool.Decides.{nat_tests}
 use Rattle.xd_auto.specs.declared.auto.State.{State}
 use Rattle.xd_auto.specs.Automaton.{Automaton, ChangesOnly, moves_at, no_moves}
 use Rattle.xd_auto.proofs.Closed.{same_state}
-use Rattle.xd_least.specs.declared.document.LeastDocument.{LeastDocument}
-use Rattle.xd_empty.specs.Parts.{is_marked}
-use Rattle.xd_bind.specs.Marks.{mark_of}
-use Rattle.xd_bind.specs.Shifts.{free_at}
-use Rattle.xd_least.specs.Least.{known_of}
 use Rattle.xd_points.specs.declared.patterns.PatternStates.{PatternStates}
 use Rattle.xd_points.specs.declared.table.PointTable.{PointTable}
 use Rattle.xd_points.specs.Tables.{is_left, points_of}
@@ -54,10 +48,3 @@ module _ (p : PatternStates) (t : PointTable) (n : ℕ) (old : Automaton) (is : 
         (cases_eq s.number n);
     waiting = λ s le. others.others s (omega arith) ∙ is.waiting s (omega arith);
   }
-
--- no state lies below the first one, so only the marks count
-pub marks_alone : (known : List (Option LeastDocument)) (marks : List Bool) (s : State) → free_at known 0 marks s ≡ is_marked marks s
-marks_alone known marks s =
-    let above : nat_lt s.number 0 ≡ false = grind (arith, nat_tests) in
-    let whole : s.number - 0 ≡ s.number = omega arith in
-    ap (λ v. cond v (is_some (known_of known s)) (mark_of 0 marks s)) above ∙ ap (λ n. get_or marks n false) whole

@@ -13,7 +13,6 @@ use Rattle.xd_auto_pairs.specs.Traces.{KeepsTogether, Owned}
 use Rattle.xd_least.specs.Least.{Knows, known_of}
 use Rattle.xd_least.specs.declared.document.LeastDocument.{LeastDocument}
 use Rattle.xd_empty.specs.Parts.{is_marked}
-use Rattle.xd_bind.proofs.IsProjectionLemmas.{all_states}
 use Rattle.xd_points.specs.declared.patterns.PatternStates.{PatternStates}
 use Rattle.xd_points.specs.declared.table.PointTable.{PointTable}
 use Rattle.xd_points.specs.Meaning.{ServePoints}
@@ -28,6 +27,7 @@ use Rattle.xd_given.specs.Traced.{AcceptsGivenAt}
 use Rattle.xd_given.proofs.BlockLaw.{given_law}
 use Rattle.xd_given.proofs.FreeLaw.{leaf_none, leaf_some}
 use Rattle.xd_given.proofs.StayLemmas.{means_still}
+use Rattle.xd_given.proofs.Elements.{all_states}
 
 any_of_map : {X Y : Type 0} (h : X → Y) (f : Y → Bool) (xs : List X) → list_any f (map h xs) ≡ list_any (λ x. f (h x)) xs
 any_of_map h f [] = refl

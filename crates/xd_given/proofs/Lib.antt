@@ -1,3 +1,5 @@
+pub mod Elements
+pub mod ChosenLemmas
 pub mod TraceLemmas
 pub mod PointTraces
 pub mod FreeLaw

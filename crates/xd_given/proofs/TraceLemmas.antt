@@ -1,7 +1,7 @@
 -- Traces that are free, whole or blocks, and what they hold.
-use Rattle.std.proofs.Common.{◌≡◌, inl, inr, true, false, cond, refl, sym, ◌∙◌}
+use Rattle.std.proofs.Common.{◌≡◌, inl, inr, true, false, cond, refl, sym, ap, ◌∙◌}
 use Rattle.std.specs.List.{slice_get}
-use Rattle.xd_doc.specs.Document.{Document, empty, text, element}
+use Rattle.xd_doc.specs.Document.{Document, empty, text, element, join}
 use Rattle.xd_doc.specs.Classes.{class_has}
 use Rattle.xd_auto.specs.declared.auto.State.{State}
 use Rattle.xd_auto.specs.declared.auto.LabelMove.{LabelMove}
@@ -10,8 +10,28 @@ use Rattle.xd_auto.specs.Automaton.{Automaton, moves_at}
 use Rattle.xd_auto.specs.Runs.{Run, ends, takes_text, takes_element, IsAcceptingRun}
 use Rattle.xd_auto_pairs.specs.Traces.{Owned, Trace, at_end, at_text, at_element, trace_of, after_text, after_element, in_element, held, IsFree, IsBlock}
 use Rattle.xd_auto.proofs.Anys.{IsSomeAnd-parts}
-use Rattle.xd_bind.proofs.Traced.{held_free}
 use Rattle.xd_given.specs.Owning.{IsWhole}
+
+-- a free trace gives the variable nothing
+pub held_free : (d : Document) (t : Trace) → IsFree t → held d t ≡ empty
+held_free empty t h = refl
+held_free (text c d) at_end h = refl
+held_free (text c d) (at_text own r) h = rw (h.0, held_free d r h.1) refl
+held_free (text c d) (at_element own k r) h = refl
+held_free (element l c d) at_end h = refl
+held_free (element l c d) (at_text own r) h = refl
+held_free (element l c d) (at_element own k r) h = rw (h.0, held_free c k h.1, held_free d r h.2) refl
+
+-- a free trace is a block
+pub block_free : (t : Trace) → IsFree t → IsBlock t
+block_free at_end h = tt
+block_free (at_text own r) h = inr h
+block_free (at_element own k r) h = inr h
+
+pub join_empty : (d : Document) → join d empty ≡ d
+join_empty empty = refl
+join_empty (text t d) = ap (text t) (join_empty d)
+join_empty (element l c d) = ap (element l c) (join_empty d)
 
 -- the trace is one of the document
 abbrev pub Fits : Document → Trace → Type 0

@@ -1,12 +1,15 @@
 -- States whose moves tell that they give each variable nothing, or all that they take.
-use Rattle.std.specs.Prelude.{◌≡◌, ℕ, ◌+◌, ◌<◌, ◌&&◌, Bool, true, false, cond, List, [], ◌∷◌, slice_get, Some}
+use Rattle.std.specs.Prelude.{◌≡◌, ℕ, ◌+◌, ◌<◌, ◌&&◌, Bool, true, false, not, cond, List, [], ◌∷◌, slice_get, Some}
 use Rattle.xd_auto.specs.declared.auto.State.{State}
 use Rattle.xd_auto.specs.declared.auto.LabelMove.{LabelMove}
 use Rattle.xd_auto.specs.declared.auto.TextMove.{TextMove}
 use Rattle.xd_auto.specs.Automaton.{Automaton, moves_at}
 use Rattle.xd_auto_pairs.specs.Traces.{Owned}
-use Rattle.xd_bind.specs.Blocks.{is_side}
 use Rattle.xd_given.specs.Owning.{owns_first}
+
+-- whether moves belong to the variable, or don't
+abbrev pub is_side : Bool → Bool → Bool
+is_side own v = cond own v (not v)
 
 -- whether a state of the set begins with moves of the variable, or with none
 abbrev pub begins : Owned → (State → Bool) → Bool → State → Bool

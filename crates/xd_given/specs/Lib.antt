@@ -1,3 +1,4 @@
+pub mod Chosen
 pub mod Owning
 pub mod Given
 pub mod Traced

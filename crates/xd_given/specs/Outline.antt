@@ -5,12 +5,12 @@ use Rattle.xd_auto.specs.Automaton.{Automaton, moves_at, no_moves}
 use Rattle.xd_least.specs.Least.{known_of}
 use Rattle.xd_least.specs.declared.document.LeastDocument.{LeastDocument}
 use Rattle.xd_auto_pairs.specs.Traces.{Owned}
-use Rattle.xd_bind.specs.Search.{IsSearched}
 use Rattle.xd_points.specs.declared.patterns.PatternStates.{PatternStates}
 use Rattle.xd_points.specs.declared.table.PointTable.{PointTable}
 use Rattle.xd_points.specs.Tables.{is_left, left_of, pattern_of, point_count, points_of}
 use Rattle.xd_given.specs.Free.{AreFree}
 use Rattle.xd_given.specs.Owning.{owns_first, point_moves}
+use Rattle.xd_bind.specs.Ahead.{IsSearched}
 
 -- Whether the point, which means what its left accepts, can be completed without the variable.
 -- Where the variable is given all, that is by the empty document alone; and else by any that is
@@ -38,4 +38,4 @@ can_stop p t leaf drawing s = cond (is_left p t s) (leaf s) (moves_at drawing s)
 -- just these points can be completed without the variable, and these lie ahead of the start
 pub record IsOutline (p : PatternStates) (t : PointTable) (b : Owned) (leaf : State → Bool) (drawing : Automaton) (start : State) (free : State → Bool) (ahead : List State) : Type 0 where
   pub complete : AreFree drawing (point_moves t b) (can_stop p t leaf drawing) free
-  pub searched : IsSearched drawing (point_moves t b) 0 start free ahead
+  pub searched : IsSearched drawing (point_moves t b) start free ahead

@@ -1,18 +1,38 @@
 -- Runs of a pattern through points, by their traces.
-use Rattle.std.specs.Prelude.{◌≡◌, ◌⊎◌, ℕ, true, false, List}
+use Rattle.std.specs.Prelude.{◌≡◌, ◌⊎◌, ℕ, Bool, true, false, List, slice_get, Some}
 use Rattle.xd_doc.specs.Document.{Document, empty, text, element, is_proper}
+use Rattle.xd_doc.specs.Classes.{class_has}
 use Rattle.xd_auto.specs.declared.auto.State.{State}
-use Rattle.xd_auto.specs.Automaton.{Automaton}
+use Rattle.xd_auto.specs.declared.auto.LabelMove.{LabelMove}
+use Rattle.xd_auto.specs.declared.auto.TextMove.{TextMove}
+use Rattle.xd_auto.specs.Automaton.{Automaton, moves_at}
 use Rattle.xd_auto.specs.Runs.{Run}
 use Rattle.xd_auto_pairs.specs.Traces.{Owned, Trace, at_end, at_text, at_element, IsFree, held, trace_of}
 use Rattle.xd_bind.specs.declared.tracks.Given.{Given}
-use Rattle.xd_bind.specs.Traced.{ElementStep, TextStep}
 use Rattle.xd_points.specs.declared.patterns.PatternStates.{PatternStates}
 use Rattle.xd_points.specs.declared.table.PointTable.{PointTable}
 use Rattle.xd_points.specs.Following.{IsRunAt}
 use Rattle.xd_points.specs.Tables.{is_left, pattern_of, point_means, points_of}
 use Rattle.xd_given.specs.Given.{AcceptsJust, AreGivensFor, IsGivenFor}
 use Rattle.xd_given.specs.Owning.{point_moves}
+
+-- a step of an accepting run
+pub record TextStep (a : Automaton) (b : Owned) (s : State) (own : Bool) (t : List ℕ) (Rest : State → Type 0) : Type 0 where
+  pub number : ℕ
+  pub step : TextMove
+  pub there : slice_get (moves_at a s).texts number ≡ Some step
+  pub has : class_has step.words t ≡ true
+  pub owned : b.text s number ≡ own
+  pub rest : Rest step.rest
+
+pub record ElementStep (a : Automaton) (b : Owned) (s : State) (own : Bool) (l : List ℕ) (Content Rest : State → Type 0) : Type 0 where
+  pub number : ℕ
+  pub step : LabelMove
+  pub there : slice_get (moves_at a s).labels number ≡ Some step
+  pub has : class_has step.class l ≡ true
+  pub owned : b.element s number ≡ own
+  pub content : Content step.content
+  pub rest : Rest step.rest
 
 -- the point means the document, and a run of its pattern's state over it, of the kind that the table
 -- is for, has the trace

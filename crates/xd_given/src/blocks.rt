@@ -4,11 +4,11 @@ ghost use Rattle.std.specs.Prelude.{◌≡◌, ◌<◌, ◌≤◌, ◌+◌, true
 ghost use Rattle.std.specs.List.{All};
 ghost use Rattle.xd_auto.specs.declared.auto.State.{State as StateView};
 ghost use Rattle.xd_auto.specs.Automaton.{Extends, IsState, LeadsBelow, moves_at, state_number};
-ghost use Rattle.xd_bind.specs.Blocks.{StaysBelow, labels_of_side, texts_of_side};
 ghost use Rattle.xd_empty.specs.Parts.{is_marked};
 ghost use Rattle.xd_points.specs.Tables.{left_of, point_count};
 ghost use Rattle.xd_given.specs.Blocks.{AreBlocks, AreFilled, IsFilledTo, there};
 ghost use Rattle.xd_given.specs.Owning.{point_moves};
+ghost use Rattle.xd_given.specs.Chosen.{StaysBelow, owned_labels, owned_texts};
 
 use crate::owner::{PointOwner, is_tail};
 use std::alloc::Global;
@@ -29,7 +29,7 @@ fn block_labels<H: Holds>(
     requires state { IsState drawing.now state }
     requires places { LeadsBelow (length places.now) (moves_at drawing.now state) }
     requires blocks { LeadsBelow (length blocks.now) (moves_at drawing.now state) }
-    ensures { IfOk result (λ labels. labels.items ≡ labels_of_side (H.owned owner.now variable) true (there places.now) (there blocks.now) state (moves_at drawing.now state)) }
+    ensures { IfOk result (λ labels. labels.items ≡ owned_labels (H.owned owner.now variable) (there places.now) (there blocks.now) state (moves_at drawing.now state)) }
 {
     let moves = drawing.label_moves(state);
     let mut labels = Vec::new(alloc);
@@ -60,7 +60,7 @@ fn block_texts<H: Holds>(
 ) -> Result<Vec<TextMove>, NoMemory>
     requires state { IsState drawing.now state }
     requires blocks { LeadsBelow (length blocks.now) (moves_at drawing.now state) }
-    ensures { IfOk result (λ texts. texts.items ≡ texts_of_side (H.owned owner.now variable) true (there blocks.now) state (moves_at drawing.now state)) }
+    ensures { IfOk result (λ texts. texts.items ≡ owned_texts (H.owned owner.now variable) (there blocks.now) state (moves_at drawing.now state)) }
 {
     let moves = drawing.text_moves(state);
     let mut texts = Vec::new(alloc);
@@ -105,28 +105,27 @@ fn blocks_of<H: Holds>(
 fn fill_blocks<H: Holds>(
     alloc: Global,
     auto: &mut Auto,
-    drawing: &Auto,
-    owner: &H,
+    of: &PointOwner<H>,
     variable: usize,
     places: &[State],
     blocks: &[State],
     base: usize,
 ) -> Result<(), NoMemory>
     requires room { length auto.old ≡ base + length blocks.now }
-    requires drawing { length blocks.now ≤ length drawing.now }
+    requires drawing { length blocks.now ≤ length of.now.drawing.now }
     requires count { length places.now ≡ length blocks.now }
     requires places { All (IsState auto.old) places.now }
     requires blocks { All (IsState auto.old) blocks.now }
-    requires leads { (s : StateView) → state_number s < length blocks.now → LeadsBelow (length blocks.now) (moves_at drawing.now s) }
-    ensures filled { OnOk result (IsFilledTo (H.owned owner.now variable) drawing.now places.now blocks.now base (length blocks.now) auto.old auto.new) }
+    requires leads { (s : StateView) → state_number s < length blocks.now → LeadsBelow (length blocks.now) (moves_at of.now.drawing.now s) }
+    ensures filled { OnOk result (IsFilledTo (point_moves of.now.table.now (H.owned of.now.owner.now variable)) of.now.drawing.now places.now blocks.now base (length blocks.now) auto.old auto.new) }
     ensures stays { StaysBelow base auto.old auto.new }
 {
     let _length = auto.len();
     for number in 0..blocks.len() {
         let at = auto.state(base + number);
-        let point = drawing.state(number);
-        let labels = block_labels(alloc, drawing, owner, variable, point, places, blocks)?;
-        let texts = block_texts(alloc, drawing, owner, variable, point, blocks)?;
+        let point = of.drawing.state(number);
+        let labels = block_labels(alloc, of.drawing, of, variable, point, places, blocks)?;
+        let texts = block_texts(alloc, of.drawing, of, variable, point, blocks)?;
         put_labels(auto, at, labels)?;
         put_texts(auto, at, texts)?;
     }
@@ -156,6 +155,6 @@ pub(crate) fn add_blocks<H: Holds>(
     let base = auto.len();
     add_states(auto, free)?;
     let blocks = blocks_of(alloc, auto, of, variable, base)?;
-    fill_blocks(alloc, auto, of.drawing, of, variable, places, &blocks, base)?;
+    fill_blocks(alloc, auto, of, variable, places, &blocks, base)?;
     Ok(blocks)
 }

@@ -12,7 +12,7 @@ use crate::free::free_points;
 use crate::owner::PointOwner;
 use std::alloc::Global;
 use xd_auto::{Auto, State};
-use xd_bind::{FreeStates, Holds, Layer, copied, states_ahead};
+use xd_bind::{Holds, copied, states_ahead};
 use xd_doc::NoMemory;
 use xd_least::LeastInhabitants;
 use xd_points::{PatternStates, PointTable};
@@ -70,16 +70,6 @@ pub(crate) fn outline<H: Holds>(
     ensures outline { IfOk result (λ outline. IsOutline of.now.patterns.now of.now.table.now (H.owned of.now.owner.now variable) (leaf_free auto.now of.now.table.now (H.owned of.now.owner.now variable) known.now) of.now.drawing.now start (is_marked outline.free.items) outline.ahead.items) }
 {
     let free = free_points(alloc, auto, of, known, variable)?;
-    let layer = Layer {
-        base: 0,
-        end: of.drawing.len(),
-        start,
-    };
-    let marked = FreeStates {
-        base: 0,
-        marks: &free,
-        known,
-    };
-    let ahead = states_ahead(alloc, of.drawing, layer, of, variable, &marked)?;
+    let ahead = states_ahead(alloc, of.drawing, of, variable, &free, start)?;
     Ok(PointOutline { free, ahead })
 }

@@ -1,4 +1,4 @@
-use Rattle.xd_bind.proofs.Changes.{changes_then, label_put}
+use Rattle.xd_bind.proofs.ChangeLemmas.{changes_then, label_put}
 use Rattle.xd_bind.proofs.adding.put_labels.Goals as goal
 
 pub loop-step-preserved : goal.loop-step-preserved

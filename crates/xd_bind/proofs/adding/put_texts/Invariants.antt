@@ -1,5 +1,5 @@
 use Rattle.xd_auto.specs.Automaton.{ChangesOnly, moves_at}
-use Rattle.xd_bind.specs.Blocks.{IsChange, with_texts}
+use Rattle.xd_bind.specs.Changes.{IsChange, with_texts}
 use Rattle.xd_bind.proofs.adding.put_texts.Given as goal
 
 abbrev pub invariant-loop-step : goal.invariant-loop-step

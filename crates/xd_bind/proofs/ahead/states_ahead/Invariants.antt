@@ -1,12 +1,12 @@
-use Rattle.std.proofs.Common.{◌+◌, ◌-◌, ◌≤◌, length, take}
+use Rattle.std.proofs.Common.{◌+◌, ◌-◌, ◌≤◌, length}
+use Rattle.xd_empty.specs.Parts.{is_marked}
 use Rattle.xd_bind.specs.Marks.{unmarked}
-use Rattle.xd_bind.specs.Shifts.{free_at}
 use Rattle.xd_bind.specs.Search.{IsSearch}
 use Rattle.xd_bind.proofs.ahead.states_ahead.Given as goal
 
 abbrev pub invariant-loop-done : goal.invariant-loop-done
 invariant-loop-done g l = record {
-  search : IsSearch (take l.fn.layer.end l.auto') (g.H.Holds.owned l.owner l.variable) l.free.base l.fn.layer.start (free_at l.free.known.now l.free.base l.free.marks.now) l.search.order.items l.search.marks.items l.done;
+  search : IsSearch l.auto' (g.H.Holds.owned l.owner l.variable) l.fn.start (is_marked l.free) l.search.order.items l.search.marks.items l.done;
   within : l.done ≤ length l.search.order.items;
 }
 

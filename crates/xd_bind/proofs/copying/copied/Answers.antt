@@ -1,6 +1,6 @@
 use Rattle.std.proofs.Common.{◌≢◌, ◌∙◌, arith}
 use Rattle.xd_bind.proofs.CopiedLemmas.{copied_more}
-use Rattle.xd_bind.proofs.ShiftLemmas.{same_automata}
+use Rattle.xd_bind.proofs.Automata.{same_automata}
 use Rattle.xd_bind.proofs.copying.copied.Goals as goal
 
 pub loop-number-preserved : goal.loop-number-preserved

@@ -1,6 +1,6 @@
 use Rattle.std.proofs.Common.{take}
 use Rattle.xd_auto.specs.Automaton.{moves_at}
-use Rattle.xd_bind.specs.Blocks.{IsChange, with_texts}
+use Rattle.xd_bind.specs.Changes.{IsChange, with_texts}
 use Rattle.xd_bind.proofs.copying.copy_texts.Given as goal
 
 abbrev pub invariant-loop-step : goal.invariant-loop-step

@@ -1,7 +1,7 @@
-use Rattle.std.proofs.Common.{◌≡◌, true, map, take}
-use Rattle.xd_bind.specs.Blocks.{chosen, is_side, text_onto}
+use Rattle.std.proofs.Common.{◌≡◌, map, take}
 use Rattle.xd_given.specs.Blocks.{there}
+use Rattle.xd_given.specs.Chosen.{chosen, text_onto}
 use Rattle.xd_given.proofs.blocks.block_texts.Given as goal
 
 abbrev pub invariant-loop-number : goal.invariant-loop-number
-invariant-loop-number g l = l.texts.items ≡ map (text_onto (there l.blocks)) (chosen (λ n. is_side true ((g.H.Holds.owned l.owner l.variable).text l.state n)) (take l.number l.moves))
+invariant-loop-number g l = l.texts.items ≡ map (text_onto (there l.blocks)) (chosen ((g.H.Holds.owned l.owner l.variable).text l.state) (take l.number l.moves))

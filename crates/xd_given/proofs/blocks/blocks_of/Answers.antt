@@ -1,8 +1,8 @@
 use Rattle.std.proofs.Common.{◌∙◌, [], ◌∷◌, sym, arith, length-append}
 use Rattle.xd_auto.specs.declared.auto.State.{State}
-use Rattle.xd_bind.proofs.IsProjectionLemmas.{elements_more}
 use Rattle.xd_given.specs.Blocks.{IsBlockFor}
 use Rattle.xd_given.proofs.FillLemmas.{other_block, tail_block}
+use Rattle.xd_given.proofs.Elements.{elements_more}
 use Rattle.xd_given.proofs.blocks.blocks_of.Goals as goal
 use Rattle.xd_given.proofs.blocks.blocks_of.Goals.{then-is_tail+in_ok-push, else-is_tail+in_ok-push-2}
 

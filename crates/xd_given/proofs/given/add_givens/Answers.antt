@@ -1,12 +1,12 @@
 use Rattle.std.proofs.Common.{◌<◌, ◌∙◌, ap, sym, refl, Some, [], ◌∷◌, arith, length, length-append}
 use Rattle.std.proofs.lemmas.Option.{slice_get_read}
 use Rattle.xd_bind.specs.declared.tracks.Given.{Given}
-use Rattle.xd_bind.proofs.IsProjectionLemmas.{elements_more}
-use Rattle.xd_bind.proofs.ShiftLemmas.{extends_trans}
 use Rattle.xd_points.proofs.StayLaws.{serving_stays}
 use Rattle.xd_points.proofs.TableLemmas.{tables_stay}
 use Rattle.xd_given.specs.Traced.{IsGivenAtOf}
 use Rattle.xd_given.proofs.StayLemmas.{accepts_as, given_still, known_still, means_still, places_still}
+use Rattle.xd_given.proofs.Elements.{elements_more}
+use Rattle.xd_bind.proofs.Automata.{extends_trans}
 use Rattle.xd_given.proofs.given.add_givens.Goals as goal
 
 pub given_of-requires-clause-table : goal.given_of-requires-clause-table

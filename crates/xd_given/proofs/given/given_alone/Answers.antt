@@ -1,11 +1,11 @@
 use Rattle.std.proofs.Common.{◌∙◌, sym, arith}
 use Rattle.xd_doc.proofs.StoredLemmas.{Keeps-same}
 use Rattle.xd_least.proofs.KnownLemmas.{stays_known}
-use Rattle.xd_bind.proofs.ShiftLemmas.{extends_trans}
 use Rattle.xd_points.proofs.StayLaws.{serving_stays}
 use Rattle.xd_points.proofs.TableLemmas.{tables_stay}
 use Rattle.xd_given.proofs.GivenLemmas.{left_state, shared}
 use Rattle.xd_given.proofs.StayLemmas.{givens_alone, means_still}
+use Rattle.xd_bind.proofs.Automata.{extends_trans}
 use Rattle.xd_given.proofs.given.given_alone.Goals as goal
 
 pub find-requires-clause-table : goal.find-requires-clause-table

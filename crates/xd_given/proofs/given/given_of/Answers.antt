@@ -1,9 +1,9 @@
 use Rattle.std.proofs.Common.{◌≡◌, ◌∙◌, List, map, ap, arith}
 use Rattle.xd_auto.specs.declared.auto.State.{State}
-use Rattle.xd_bind.proofs.ShiftLemmas.{extends_trans}
 use Rattle.xd_given.specs.Blocks.{there}
 use Rattle.xd_given.specs.Outline.{leaf_free}
 use Rattle.xd_given.proofs.GivenLemmas.{ahead_points, drawn_count, drawn_leads, given_here, places_belong, states_belong}
+use Rattle.xd_bind.proofs.Automata.{extends_trans}
 use Rattle.xd_given.proofs.given.given_of.Goals as goal
 
 pub outline-requires-clause-count : goal.outline-requires-clause-count

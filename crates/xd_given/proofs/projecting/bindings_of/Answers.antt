@@ -2,7 +2,7 @@ use Rattle.std.proofs.Common.{◌≡◌, ◌<◌, ◌∙◌, ap, sym, subst, Som
 use Rattle.xd_bind.specs.declared.tracks.Binding.{Binding}
 use Rattle.xd_bind.specs.declared.tracks.Given.{Given}
 use Rattle.xd_bind.specs.Projection.{IsBindingOf, IsGivenOf, owned_by}
-use Rattle.xd_bind.proofs.IsProjectionLemmas.{elements_more, given_by_same}
+use Rattle.xd_given.proofs.Elements.{elements_more, given_by_same}
 use Rattle.xd_given.proofs.projecting.bindings_of.Goals as goal
 
 pub inhabited_part-requires : goal.inhabited_part-requires

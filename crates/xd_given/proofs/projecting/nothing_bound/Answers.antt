@@ -2,9 +2,9 @@ use Rattle.std.proofs.Common.{◌≡◌, ◌<◌, ◌∙◌, ap, sym, refl, Some
 use Rattle.std.proofs.lemmas.Option.{slice_get_read}
 use Rattle.xd_bind.specs.declared.tracks.Binding.{Binding}
 use Rattle.xd_bind.specs.Projection.{IsBindingOf, owned_by}
-use Rattle.xd_bind.proofs.IsProjectionLemmas.{elements_more}
 use Rattle.xd_given.proofs.GivenLemmas.{nothing_accepted}
 use Rattle.xd_given.proofs.ProjectLemmas.{nothing_given}
+use Rattle.xd_given.proofs.Elements.{elements_more}
 use Rattle.xd_given.proofs.projecting.nothing_bound.Goals as goal
 
 pub loop-number-preserved : goal.loop-number-preserved

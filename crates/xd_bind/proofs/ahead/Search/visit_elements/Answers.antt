@@ -1,21 +1,20 @@
-use Rattle.std.proofs.Common.{◌≡◌, ◌<◌, ◌+◌, ◌∙◌, ap, sym, refl, true, false, Some, arith, length}
+use Rattle.std.proofs.Common.{◌≡◌, ◌<◌, ◌∙◌, ap, sym, refl, true, false, Some, arith, length}
 use Rattle.std.specs.List.{slice_get}
 use Rattle.std.proofs.lemmas.Option.{slice_get_read}
 use Rattle.xd_auto.specs.declared.auto.LabelMove.{LabelMove}
 use Rattle.xd_auto.specs.Automaton.{moves_at}
-use Rattle.xd_bind.specs.Shifts.{free_at}
-use Rattle.xd_bind.specs.Search.{HasMark, IsFollowed, LeadsAhead}
-use Rattle.xd_bind.proofs.IsSearchLemmas.{IsFollowed-kept, mark_kept, of_read, side_leads, visit_more, visit_past}
+use Rattle.xd_empty.specs.Parts.{is_marked}
+use Rattle.xd_bind.specs.Search.{IsFollowed, LeadsAhead}
+use Rattle.xd_bind.proofs.IsSearchLemmas.{IsFollowed-kept, of_read, side_leads, visit_more, visit_past}
 use Rattle.xd_bind.proofs.ahead.Search.visit_elements.Goals as goal
 use Rattle.xd_bind.proofs.ahead.Search.visit_elements.Goals.{then-not-has_move+then-not-holds+in_ok-visit_move, then-not-has_move+else-not-holds, else-not-has_move}
 
 pub loop-number-preserved : goal.loop-number-preserved
 loop-number-preserved g c =
     let moves = moves_at c.args.auto.now c.args.state in
-    let base = c.args.free.now.base in
     let b = g.H.Holds.owned c.args.owner.now c.args.variable in
     let s = c.args.state in
-    let free = free_at c.args.free.now.known.now c.args.free.now.base c.args.free.now.marks.now in
+    let free = is_marked c.args.free.now in
     let i = c.loop-number.number in
     let xs = c.label_moves-moves.result.now in
     let m = c.index-moves-number.result in
@@ -24,13 +23,13 @@ loop-number-preserved g c =
       | then-not-has_move+then-not-holds+in_ok-visit_move w ↦
           let own : b.element s i ≡ false = sym w.holds.ensures ∙ w.if-not-holds.true in
           let grows = w.in_ok-visit_move.ensures.grows in
-          rw w.self-is (visit_more base (LeadsAhead b base free s moves) (b.element s) (λ ms. IsFollowed base free ms) moves.labels _ _ _ _ _ _ _ i m there (λ v. IsFollowed-kept base free _ _ _ _ _ v grows)
-          (side_leads b base free s moves i m there own) grows w.in_ok-visit_move.ensures.marked c.loop-number.invariant)
+          rw w.self-is (visit_more (LeadsAhead b free s moves) (b.element s) (λ ms. IsFollowed free ms) moves.labels _ _ _ _ _ _ _ i m there (λ v. IsFollowed-kept free _ _ _ _ _ v grows)
+          (side_leads b free s moves i m there own) grows w.in_ok-visit_move.ensures.marked c.loop-number.invariant)
       | then-not-has_move+else-not-holds w ↦
-          rw w.self-is (visit_past base (LeadsAhead b base free s moves) (b.element s) (λ ms. IsFollowed base free ms) moves.labels _ _ _ _ i m there
+          rw w.self-is (visit_past (LeadsAhead b free s moves) (b.element s) (λ ms. IsFollowed free ms) moves.labels _ _ _ _ i m there
           (λ own. absurd (let both : true ≡ false = sym w.if-not-holds.false ∙ w.holds.ensures ∙ own in cc)) c.loop-number.invariant)
       | else-not-has_move w ↦
-          rw w.self-is (visit_past base (LeadsAhead b base free s moves) (b.element s) (λ ms. IsFollowed base free ms) moves.labels _ _ _ _ i m there (λ own. c.has_move.ensures w.if-not-has_move.false) c.loop-number.invariant)
+          rw w.self-is (visit_past (LeadsAhead b free s moves) (b.element s) (λ ms. IsFollowed free ms) moves.labels _ _ _ _ i m there (λ own. c.has_move.ensures w.if-not-has_move.false) c.loop-number.invariant)
     ]
 
 pub returns-clause-marked : goal.returns-clause-marked
@@ -40,24 +39,24 @@ returns-clause-marked g c n m l there own =
 
 pub has_move-requires-clause-content : goal.has_move-requires-clause-content
 has_move-requires-clause-content g c =
-    let old = of_read (λ (w : LabelMove). w.content.number < c.args.free.now.base + length c.args.self.now.marks.items) c.label_moves-moves.result.now _ c.loop-number.number c.index-moves-number.result
+    let old = of_read (λ (w : LabelMove). w.content.number < length c.args.self.now.marks.items) c.label_moves-moves.result.now _ c.loop-number.number c.index-moves-number.result
     c.label_moves-moves.ensures.value c.loop-number-test.true c.index-moves-number.is c.requires.contents in
     omega (arith, old, c.loop-number.invariant.grows.sized)
 
 pub has_move-requires-clause-rest : goal.has_move-requires-clause-rest
 has_move-requires-clause-rest g c =
-    mark_kept c.args.free.now.base _ _ _ c.loop-number.invariant.grows.sized
-    (of_read (λ (w : LabelMove). HasMark c.args.free.now.base c.args.self.now.marks.items w.rest) c.label_moves-moves.result.now _ c.loop-number.number c.index-moves-number.result c.label_moves-moves.ensures.value c.loop-number-test.true
-    c.index-moves-number.is c.requires.rests)
+    let old = of_read (λ (w : LabelMove). w.rest.number < length c.args.self.now.marks.items) c.label_moves-moves.result.now _ c.loop-number.number c.index-moves-number.result c.label_moves-moves.ensures.value c.loop-number-test.true
+    c.index-moves-number.is c.requires.rests in
+    omega (arith, old, c.loop-number.invariant.grows.sized)
 
 pub visit_move-requires-clause-content : goal.visit_move-requires-clause-content
 visit_move-requires-clause-content g c =
-    let old = of_read (λ (w : LabelMove). w.content.number < c.args.free.now.base + length c.args.self.now.marks.items) c.label_moves-moves.result.now _ c.loop-number.number c.index-moves-number.result
+    let old = of_read (λ (w : LabelMove). w.content.number < length c.args.self.now.marks.items) c.label_moves-moves.result.now _ c.loop-number.number c.index-moves-number.result
     c.label_moves-moves.ensures.value c.loop-number-test.true c.index-moves-number.is c.requires.contents in
     omega (arith, old, c.loop-number.invariant.grows.sized)
 
 pub visit_move-requires-clause-rest : goal.visit_move-requires-clause-rest
 visit_move-requires-clause-rest g c =
-    mark_kept c.args.free.now.base _ _ _ c.loop-number.invariant.grows.sized
-    (of_read (λ (w : LabelMove). HasMark c.args.free.now.base c.args.self.now.marks.items w.rest) c.label_moves-moves.result.now _ c.loop-number.number c.index-moves-number.result c.label_moves-moves.ensures.value c.loop-number-test.true
-    c.index-moves-number.is c.requires.rests)
+    let old = of_read (λ (w : LabelMove). w.rest.number < length c.args.self.now.marks.items) c.label_moves-moves.result.now _ c.loop-number.number c.index-moves-number.result c.label_moves-moves.ensures.value c.loop-number-test.true
+    c.index-moves-number.is c.requires.rests in
+    omega (arith, old, c.loop-number.invariant.grows.sized)

@@ -9,4 +9,4 @@ invariant-loop-number g l =
     let b = g.H.Holds.owned l.owner l.variable in
     let moves = moves_at l.auto' l.state in
     (free : State → Bool)
-    → IsVisiting l.base (LeadsAhead b l.base free l.state moves) (b.text l.state) (λ ms. IsTextFollowed l.base ms) moves.texts l.initial.self.order.items l.initial.self.marks.items l.self.order.items l.self.marks.items l.number
+    → IsVisiting (LeadsAhead b free l.state moves) (b.text l.state) (λ ms. IsTextFollowed ms) moves.texts l.initial.self.order.items l.initial.self.marks.items l.self.order.items l.self.marks.items l.number

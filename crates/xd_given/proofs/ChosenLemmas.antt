@@ -1,13 +1,12 @@
--- On moves that are chosen, and on states that get more moves.
-use Rattle.std.proofs.Common.{◌≡◌, ℕ, zero, suc, ◌+◌, ◌<◌, Bool, true, false, cond, List, [], ◌∷◌, ◌++◌, map, length, take, get_or, refl, sym, ap, ◌∙◌, arith, add-one, append_assoc, get_or-set_same}
-use Rattle.std.specs.List.{All}
+-- On elements that are chosen by their numbers.
+use Rattle.std.proofs.Common.{◌≡◌, ℕ, zero, suc, ◌+◌, ◌<◌, Bool, true, false, ◌||◌, cond, List, [], ◌∷◌, ◌++◌, map, length, take, get_or, Some, refl, sym, ap, ◌∙◌, arith, add-one}
+use Rattle.std.specs.List.{All, list_any, slice_get}
 use Rattle.std.proofs.lemmas.List.Elements.{All-cons, All-head, All-tail}
 use Rattle.xd_doc.specs.Classes.{LabelClass, TextClass}
 use Rattle.xd_auto.specs.declared.auto.State.{State}
 use Rattle.xd_auto.specs.declared.auto.LabelMove.{LabelMove}
 use Rattle.xd_auto.specs.declared.auto.TextMove.{TextMove}
-use Rattle.xd_auto.specs.Automaton.{Automaton, StateMoves, ChangesOnly, IsState, moves_at, no_moves, with_label_move, with_moves, with_text_move}
-use Rattle.xd_bind.specs.Blocks.{IsChange, chosen, label_onto, text_onto, with_labels, with_texts}
+use Rattle.xd_given.specs.Chosen.{chosen, label_onto, text_onto}
 
 append_none : {X : Type 0} (xs : List X) → xs ++ [] ≡ xs
 append_none [] = refl
@@ -59,33 +58,38 @@ pub label_onto_is : (contents rests : State → State) (m : LabelMove) (c : Labe
     → record { class = c; content = content; rest = rest } ≡ label_onto contents rests m
 label_onto_is contents rests m c content rest e f g = rw (e, f, g) refl
 
-put_here : (mid new : Automaton) (at : State) (moves : StateMoves) → at.number < length mid → new ≡ with_moves mid at moves → moves_at new at ≡ moves
-put_here mid new at moves here is = ap (λ (w : Automaton). moves_at w at) is ∙ get_or-set_same mid at.number moves (no_moves false) here
+-- an element whose number passes one test, and which passes the other
+pub record Choice {X : Type 0} (p : ℕ → Bool) (test : X → Bool) (xs : List X) : Type 0 where
+  pub number : ℕ
+  pub item : X
+  pub there : slice_get xs number ≡ Some item
+  pub picked : p number ≡ true
+  pub passes : test item ≡ true
 
--- a state has one more move
-pub label_put : (old mid new : Automaton) (at : State) (ms : List LabelMove) (m : LabelMove) → IsState old at → IsChange old mid at (with_labels ms (moves_at old at)) → new ≡ with_label_move mid at m → ChangesOnly at mid new
-    → IsChange old new at (with_labels (ms ++ m ∷ []) (moves_at old at))
-label_put old mid new at ms m there h is only =
-    let had = moves_at old at in
-    record {
-      states = only.states ∙ h.states;
-      here = put_here mid new at (record (moves_at mid at) { labels = (moves_at mid at).labels ++ m ∷ [] }) (omega (arith, h.states, there)) is
-          ∙ ap (λ (w : StateMoves). record w { labels = w.labels ++ m ∷ [] }) h.here
-          ∙ ap (λ (ls : List LabelMove). record { last = had.last; labels = ls; texts = had.texts }) (append_assoc had.labels ms (m ∷ []));
-      others = λ s ne. only.others s ne ∙ h.others s ne;
-    }
+pub choice : {X Y : Type 0} (f : X → Y) (test : Y → Bool) (p : ℕ → Bool) (xs : List X) → list_any test (map f (chosen p xs)) ≡ true → Choice p (λ x. test (f x)) xs
+choice f test p [] e = absurd (cc)
+choice f test p (x ∷ xs) e = pick (p 0) (test (f x)) refl refl e (λ h. choice f test (λ n. p (suc n)) xs h)
+  where
+    later : Choice (λ n. p (suc n)) (λ w. test (f w)) xs → Choice p (λ w. test (f w)) (x ∷ xs)
+    later c = record { number = suc c.number; item = c.item; there = c.there; picked = c.picked; passes = c.passes }
 
-pub text_put : (old mid new : Automaton) (at : State) (ms : List TextMove) (m : TextMove) → IsState old at → IsChange old mid at (with_texts ms (moves_at old at)) → new ≡ with_text_move mid at m → ChangesOnly at mid new
-    → IsChange old new at (with_texts (ms ++ m ∷ []) (moves_at old at))
-text_put old mid new at ms m there h is only =
-    let had = moves_at old at in
-    record {
-      states = only.states ∙ h.states;
-      here = put_here mid new at (record (moves_at mid at) { texts = (moves_at mid at).texts ++ m ∷ [] }) (omega (arith, h.states, there)) is
-          ∙ ap (λ (w : StateMoves). record w { texts = w.texts ++ m ∷ [] }) h.here
-          ∙ ap (λ (ts : List TextMove). record { last = had.last; labels = had.labels; texts = ts }) (append_assoc had.texts ms (m ∷ []));
-      others = λ s ne. only.others s ne ∙ h.others s ne;
-    }
+    pick : (v t : Bool) → p 0 ≡ v → test (f x) ≡ t → list_any test (map f (cond v (x ∷ chosen (λ n. p (suc n)) xs) (chosen (λ n. p (suc n)) xs))) ≡ true
+        → (list_any test (map f (chosen (λ n. p (suc n)) xs)) ≡ true → Choice (λ n. p (suc n)) (λ w. test (f w)) xs) → Choice p (λ w. test (f w)) (x ∷ xs)
+    pick true true is passes h ih = record { number = 0; item = x; there = refl; picked = is; passes = passes }
+    pick true false is passes h ih = later (ih (rw passes at h))
+    pick false t is passes h ih = later (ih h)
 
-pub changes_then : (at : State) (a b c : Automaton) → ChangesOnly at a b → ChangesOnly at b c → ChangesOnly at a c
-changes_then at a b c h k = record { states = k.states ∙ h.states; others = λ s ne. k.others s ne ∙ h.others s ne }
+pub any_choice : {X Y : Type 0} (f : X → Y) (test : Y → Bool) (p : ℕ → Bool) (xs : List X) (n : ℕ) (x : X) → slice_get xs n ≡ Some x → p n ≡ true → test (f x) ≡ true
+    → list_any test (map f (chosen p xs)) ≡ true
+any_choice f test p [] n x there picked passes = absurd (cc)
+any_choice f test p (y ∷ xs) zero x there picked passes = let same : y ≡ x = cc in rw (picked, same, passes) refl
+any_choice f test p (y ∷ xs) (suc n) x there picked passes = put (p 0) (any_choice f test (λ k. p (suc k)) xs n x there picked passes)
+  where
+    or_true : (u v : Bool) → v ≡ true → (u || v) ≡ true
+    or_true true v h = refl
+    or_true false v h = h
+
+    put : (v : Bool) → list_any test (map f (chosen (λ k. p (suc k)) xs)) ≡ true
+        → list_any test (map f (cond v (y ∷ chosen (λ k. p (suc k)) xs) (chosen (λ k. p (suc k)) xs))) ≡ true
+    put true h = or_true (test (f y)) _ h
+    put false h = h
