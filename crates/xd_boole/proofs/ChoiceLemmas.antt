@@ -1,5 +1,6 @@
 -- On choices of sides.
 use Rattle.std.proofs.Common.{◌≡◌, ℕ, ◌+◌, ◌<◌, ◌≤◌, Bool, true, false, not, ◌&&◌, ◌||◌, List, [], ◌∷◌, ◌++◌, take, length, get_or, refl, ap, sym, ◌∙◌, subst}
+use Rattle.std.proofs.lemmas.Bool.{not-true}
 use Rattle.std.proofs.lemmas.List.Folds.{list_any_at, list_any-append, list_any_more}
 use Rattle.xd_doc.specs.Document.{Document}
 use Rattle.xd_auto.specs.Automaton.{Automaton, accepts}
@@ -14,20 +15,16 @@ use Rattle.xd_boole.proofs.Lists.{all_at, all_front, all_last, all_push, any_wal
 use Rattle.xd_boole.proofs.Bools.{and_false, and_left, and_right, drop_implied, either_side, implied_by, next_one, or_nothing, other_content, other_rest}
 use Rattle.xd_boole.proofs.AnyAcceptsLemmas.{has_refuses, with_state_accepts, with_state_all, within_refuses}
 
-not_true : (b : Bool) → not b ≡ true → b ≡ false
-not_true true e = absurd (cc)
-not_true false e = refl
-
 -- the sets of a choice contain those of another
 abbrev pub contains : SideChoice → SideChoice → Bool
 contains k other = is_within k.contents.items other.contents.items && is_within k.rests.items other.rests.items
 
 module _ (a : Automaton) (c d : Document) where
   refuses_content : (k : SideChoice) → choice_refuses a c d k ≡ true → any_accepts a k.contents.items c ≡ false
-  refuses_content k e = not_true (any_accepts a k.contents.items c) (and_left (not (any_accepts a k.contents.items c)) (not (any_accepts a k.rests.items d)) e)
+  refuses_content k e = not-true (any_accepts a k.contents.items c) (and_left (not (any_accepts a k.contents.items c)) (not (any_accepts a k.rests.items d)) e)
 
   refuses_rest : (k : SideChoice) → choice_refuses a c d k ≡ true → any_accepts a k.rests.items d ≡ false
-  refuses_rest k e = not_true (any_accepts a k.rests.items d) (and_right (not (any_accepts a k.contents.items c)) (not (any_accepts a k.rests.items d)) e)
+  refuses_rest k e = not-true (any_accepts a k.rests.items d) (and_right (not (any_accepts a k.contents.items c)) (not (any_accepts a k.rests.items d)) e)
 
   -- then it refuses no more
   contains_implies : (k other : SideChoice) → contains k other ≡ true → choice_refuses a c d k ≡ true → choice_refuses a c d other ≡ true

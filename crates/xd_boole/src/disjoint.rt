@@ -10,7 +10,7 @@ ghost use Rattle.xd_boole.specs.Refusals.{LeadInside};
 
 use crate::classes::{are_apart, are_texts_apart};
 use crate::groups::{MoveSide, side_of};
-use crate::matching::Step;
+use crate::step::Step;
 use std::alloc::Global;
 use xd_auto::{Auto, LabelMove, State, TextMove};
 use xd_doc::NoMemory;

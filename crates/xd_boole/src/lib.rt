@@ -10,6 +10,7 @@ mod matching;
 mod merging;
 mod refusals;
 mod states;
+mod step;
 mod taken;
 mod twins;
 mod universal;

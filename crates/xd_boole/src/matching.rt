@@ -6,35 +6,10 @@ ghost use Rattle.xd_auto.specs.Automaton.{IsState};
 ghost use Rattle.xd_boole.specs.Matching.{AddsThose, AreMovesOf, AreMovesBefore};
 ghost use Rattle.xd_boole.specs.Refusals.{AreMovesOn};
 
+use crate::step::Step;
 use std::alloc::Global;
-use xd_auto::{Auto, LabelMove, Move, State, TextMove};
+use xd_auto::{Auto, LabelMove, State};
 use xd_doc::NoMemory;
-
-/// A move that can be shared.
-pub(crate) trait Step: Move + Drop {
-    /// An equal move.
-    fn share(&self) -> Result<Self, NoMemory>
-        ensures { IfOk result (λ copy. copy ≡ self.now) };
-}
-
-impl Step for LabelMove {
-    fn share(&self) -> Result<Self, NoMemory> {
-        Ok(LabelMove {
-            class: self.class.share()?,
-            content: self.content,
-            rest: self.rest,
-        })
-    }
-}
-
-impl Step for TextMove {
-    fn share(&self) -> Result<Self, NoMemory> {
-        Ok(TextMove {
-            words: self.words.share()?,
-            rest: self.rest,
-        })
-    }
-}
 
 /// Those of the numbers that are below a bound.
 fn below(alloc: Global, numbers: &[usize], bound: usize) -> Result<Vec<usize>, NoMemory>

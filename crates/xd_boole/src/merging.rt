@@ -6,8 +6,9 @@ ghost use Rattle.xd_doc.specs.Document.{Document};
 ghost use Rattle.xd_auto.specs.declared.auto.State.{State};
 ghost use Rattle.xd_auto.specs.Automaton.{IsState, accepts, moves_at, state_number};
 ghost use Rattle.xd_boole.specs.Meaning.{TellSame};
-ghost use Rattle.xd_boole.specs.Merging.{AreLike, AreStandIns, IsLike, IsLikeLabel, IsLikeText, KeepStates, RedirectsFirst, RedirectsLabels, RedirectsTexts, found_at, stand_in};
+ghost use Rattle.xd_boole.specs.Merging.{AreLike, AreStandIns, IsLike, KeepStates, RedirectsFirst, RedirectsLabels, RedirectsTexts, found_at, stand_in};
 
+use crate::step::Step;
 use std::alloc::Global;
 use std::collections::HashMap;
 use xd_auto::{Auto, LabelMove, State, TextMove};
@@ -32,7 +33,7 @@ pub(crate) fn stand_in(same: &[State], state: State) -> State
 }
 
 /// Whether these are the states that are compared, or the same state stands in for both.
-fn is_like(same: &[State], compared: Compared, one: State, other: State) -> bool
+pub(crate) fn is_like(same: &[State], compared: Compared, one: State, other: State) -> bool
     ensures { result ≡ true → IsLike same.now compared one other }
 {
     if one == compared.one && other == compared.other {
@@ -42,7 +43,7 @@ fn is_like(same: &[State], compared: Compared, one: State, other: State) -> bool
 }
 
 /// Whether both classes name the same labels.
-fn is_same_class(one: &Class, other: &Class) -> bool
+pub(crate) fn is_same_class(one: &Class, other: &Class) -> bool
     ensures { result ≡ true → one.now ≡ other.now }
 {
     if one.takes_others() != other.takes_others() {
@@ -52,7 +53,7 @@ fn is_same_class(one: &Class, other: &Class) -> bool
 }
 
 /// Whether both classes name the same texts.
-fn are_same_words(one: &Words, other: &Words) -> bool
+pub(crate) fn are_same_words(one: &Words, other: &Words) -> bool
     ensures { result ≡ true → one.now ≡ other.now }
 {
     if one.takes_others() != other.takes_others() {
@@ -61,64 +62,15 @@ fn are_same_words(one: &Words, other: &Words) -> bool
     one.texts() == other.texts()
 }
 
-/// Whether two moves on an element are for the same labels, and lead to states that are like each
-/// other.
-fn is_like_label(same: &[State], compared: Compared, one: &LabelMove, other: &LabelMove) -> bool
-    ensures { result ≡ true → IsLikeLabel same.now compared one.now other.now }
-{
-    if !is_like(same, compared, one.content, other.content) {
-        return false;
-    }
-    if !is_like(same, compared, one.rest, other.rest) {
-        return false;
-    }
-    is_same_class(&one.class, &other.class)
-}
-
-/// The same of two moves on a text.
-fn is_like_text(same: &[State], compared: Compared, one: &TextMove, other: &TextMove) -> bool
-    ensures { result ≡ true → IsLikeText same.now compared one.now other.now }
-{
-    if !is_like(same, compared, one.rest, other.rest) {
-        return false;
-    }
-    are_same_words(&one.words, &other.words)
-}
-
-/// Whether moves on an element are like others, each like the one at its place.
-fn are_like_labels(
-    same: &[State],
-    compared: Compared,
-    ones: &[LabelMove],
-    others: &[LabelMove],
-) -> bool
-    ensures { result ≡ true → AllZip (IsLikeLabel same.now compared) ones.now others.now }
+/// Whether moves are like others, each like the one at its place.
+fn are_like_moves<M: Step>(same: &[State], compared: Compared, ones: &[M], others: &[M]) -> bool
+    ensures { result ≡ true → AllZip (M.alike same.now compared) ones.now others.now }
 {
     if ones.len() != others.len() {
         return false;
     }
     for number in 0..ones.len() {
-        if !is_like_label(same, compared, &ones[number], &others[number]) {
-            return false;
-        }
-    }
-    true
-}
-
-/// The same of moves on a text.
-fn are_like_texts(
-    same: &[State],
-    compared: Compared,
-    ones: &[TextMove],
-    others: &[TextMove],
-) -> bool
-    ensures { result ≡ true → AllZip (IsLikeText same.now compared) ones.now others.now }
-{
-    if ones.len() != others.len() {
-        return false;
-    }
-    for number in 0..ones.len() {
-        if !is_like_text(same, compared, &ones[number], &others[number]) {
+        if !ones[number].is_like(same, compared, &others[number]) {
             return false;
         }
     }
@@ -135,7 +87,7 @@ pub(crate) fn are_like(auto: &Auto, same: &[State], compared: Compared) -> bool
     if auto.is_last(compared.one) != auto.is_last(compared.other) {
         return false;
     }
-    if !are_like_labels(
+    if !are_like_moves(
         same,
         compared,
         auto.label_moves(compared.one),
@@ -143,7 +95,7 @@ pub(crate) fn are_like(auto: &Auto, same: &[State], compared: Compared) -> bool
     ) {
         return false;
     }
-    are_like_texts(
+    are_like_moves(
         same,
         compared,
         auto.text_moves(compared.one),

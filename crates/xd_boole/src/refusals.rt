@@ -8,7 +8,7 @@ ghost use Rattle.xd_boole.specs.Universal.{MarkUniversal};
 use crate::choices::{SideChoice, copy_choices, extend_all, no_choice};
 use crate::classes::{are_apart, has_all_of};
 use crate::groups::side_of;
-use crate::matching::Step;
+use crate::step::Step;
 use crate::taken::Taken;
 use std::alloc::Global;
 use xd_auto::LabelMove;

@@ -6,59 +6,34 @@ ghost use Rattle.std.specs.Option.{IfSome};
 ghost use Rattle.xd_doc.specs.Document.{Document};
 ghost use Rattle.xd_auto.specs.Automaton.{IsState, accepts};
 ghost use Rattle.xd_empty.specs.Parts.{is_marked};
-ghost use Rattle.xd_boole.specs.Universal.{AcceptsAll, MarkUniversal, TakesAll, has_all, leads_all, text_leads_all};
+ghost use Rattle.xd_boole.specs.Universal.{AcceptsAll, MarkUniversal, TakesAll, has_all};
 
-use crate::states::has_state;
+use crate::step::Step;
 use std::alloc::Global;
-use xd_auto::{Auto, LabelMove, State, TextMove, trim};
+use xd_auto::{Auto, State, trim};
 use xd_auto_pairs::add_universal;
 use xd_doc::{Class, NoMemory, Words};
 
 /// Whether the class has all labels.
-fn has_all_labels(class: &Class) -> bool
+pub(crate) fn has_all_labels(class: &Class) -> bool
     ensures { result ≡ has_all class.now }
 {
     class.takes_others() && class.names().is_empty()
 }
 
 /// Whether the class has all texts.
-fn has_all_texts(words: &Words) -> bool
+pub(crate) fn has_all_texts(words: &Words) -> bool
     ensures { result ≡ has_all words.now }
 {
     words.takes_others() && words.texts().is_empty()
 }
 
-/// Whether the move is for all labels, and leads to some of these states.
-fn leads_all(step: &LabelMove, states: &[State]) -> bool
-    ensures { result ≡ leads_all states.now step.now }
-{
-    has_all_labels(&step.class) && has_state(states, step.content) && has_state(states, step.rest)
-}
-
-/// Whether one of the moves is for all labels, and leads to some of these states.
-fn any_leads(moves: &[LabelMove], states: &[State]) -> bool
-    ensures { result ≡ list_any (leads_all states.now) moves.now }
+/// Whether one of the moves is for all names, and leads to some of these states.
+fn any_leads<M: Step>(moves: &[M], states: &[State]) -> bool
+    ensures { result ≡ list_any (M.leads_on states.now) moves.now }
 {
     for step in moves {
-        if leads_all(step, states) {
-            return true;
-        }
-    }
-    false
-}
-
-/// The same of a move for all texts.
-fn text_leads_all(step: &TextMove, states: &[State]) -> bool
-    ensures { result ≡ text_leads_all states.now step.now }
-{
-    has_all_texts(&step.words) && has_state(states, step.rest)
-}
-
-fn any_text_leads(moves: &[TextMove], states: &[State]) -> bool
-    ensures { result ≡ list_any (text_leads_all states.now) moves.now }
-{
-    for step in moves {
-        if text_leads_all(step, states) {
+        if step.leads_all(states) {
             return true;
         }
     }
@@ -77,7 +52,7 @@ fn takes_all(auto: &Auto, states: &[State], state: State) -> bool
     if !any_leads(auto.label_moves(state), states) {
         return false;
     }
-    any_text_leads(auto.text_moves(state), states)
+    any_leads(auto.text_moves(state), states)
 }
 
 /// Whether all of the states do.
@@ -93,24 +68,12 @@ fn all_take_all(auto: &Auto, states: &[State]) -> bool
     true
 }
 
-/// The number of the first move that is for all labels.
-fn all_labels(moves: &[LabelMove]) -> Option<usize>
+/// The number of the first move that is for all names.
+fn first_for_all<M: Step>(moves: &[M]) -> Option<usize>
     ensures { IfSome result (λ number. number < length moves.now) }
 {
     for number in 0..moves.len() {
-        if has_all_labels(&moves[number].class) {
-            return Some(number);
-        }
-    }
-    None
-}
-
-/// The number of the first move that is for all texts.
-fn all_texts(moves: &[TextMove]) -> Option<usize>
-    ensures { IfSome result (λ number. number < length moves.now) }
-{
-    for number in 0..moves.len() {
-        if has_all_texts(&moves[number].words) {
+        if moves[number].has_all() {
             return Some(number);
         }
     }
@@ -126,10 +89,10 @@ pub fn is_universal(auto: &Auto, state: State) -> bool
 {
     let labels = auto.label_moves(state);
     let texts = auto.text_moves(state);
-    let Some(label) = all_labels(labels) else {
+    let Some(label) = first_for_all(labels) else {
         return false;
     };
-    let Some(text) = all_texts(texts) else {
+    let Some(text) = first_for_all(texts) else {
         return false;
     };
     let step = &labels[label];

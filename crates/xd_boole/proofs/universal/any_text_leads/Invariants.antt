@@ -1,7 +1,0 @@
-use Rattle.std.proofs.Common.{◌≡◌, drop}
-use Rattle.std.specs.List.{list_any}
-use Rattle.xd_boole.specs.Universal.{text_leads_all}
-use Rattle.xd_boole.proofs.universal.any_text_leads.Given as goal
-
-abbrev pub invariant-loop-step : goal.invariant-loop-step
-invariant-loop-step l = list_any (text_leads_all l.states) l.moves ≡ list_any (text_leads_all l.states) (drop l.step-index l.moves)
