@@ -46,20 +46,20 @@ module _ (a : Automaton) (p : PatternStates) (t : PointTable) (b : Owned) (is : 
   -- the run from a point that has moves leads to the points that its moves lead to
   pub text_step : (s : State) (k : ℕ) (m : TextMove) → s.number < point_count t → is_left p t s ≡ false → slice_get (moves_at (points_of t) s).texts k ≡ Some m
       → Beside (IsTextStep p.auto (pattern_of t s) t.points) m (row_at t.rows.items s.number).texts k
-  text_step s k m lt yet e = beside (IsTextStep p.auto (pattern_of t s) t.points) (moves_at (points_of t) s).texts (row_at t.rows.items s.number).texts k m (has s lt yet).text_steps e
+  text_step s k m lt yet e = beside (IsTextStep p.auto (pattern_of t s) t.points) (moves_at (points_of t) s).texts (row_at t.rows.items s.number).texts k m (has s lt yet).texts.steps e
 
   pub label_step : (s : State) (k : ℕ) (m : LabelMove) → s.number < point_count t → is_left p t s ≡ false → slice_get (moves_at (points_of t) s).labels k ≡ Some m
       → Beside (IsLabelStep p.auto (pattern_of t s) t.points) m (row_at t.rows.items s.number).labels k
-  label_step s k m lt yet e = beside (IsLabelStep p.auto (pattern_of t s) t.points) (moves_at (points_of t) s).labels (row_at t.rows.items s.number).labels k m (has s lt yet).label_steps e
+  label_step s k m lt yet e = beside (IsLabelStep p.auto (pattern_of t s) t.points) (moves_at (points_of t) s).labels (row_at t.rows.items s.number).labels k m (has s lt yet).labels.steps e
 
   pub text_within : (s : State) (k : ℕ) (m : TextMove) → s.number < point_count t → is_left p t s ≡ false → slice_get (moves_at (points_of t) s).texts k ≡ Some m → m.rest.number < point_count t
-  text_within s k m lt yet e = (text_step s k m lt yet e).related.leads.leads.within
+  text_within s k m lt yet e = (text_step s k m lt yet e).related.leads.0.within
 
   pub content_within : (s : State) (k : ℕ) (m : LabelMove) → s.number < point_count t → is_left p t s ≡ false → slice_get (moves_at (points_of t) s).labels k ≡ Some m → m.content.number < point_count t
-  content_within s k m lt yet e = (label_step s k m lt yet e).related.leads.content.within
+  content_within s k m lt yet e = (label_step s k m lt yet e).related.leads.0.within
 
   pub rest_within : (s : State) (k : ℕ) (m : LabelMove) → s.number < point_count t → is_left p t s ≡ false → slice_get (moves_at (points_of t) s).labels k ≡ Some m → m.rest.number < point_count t
-  rest_within s k m lt yet e = (label_step s k m lt yet e).related.leads.rest.within
+  rest_within s k m lt yet e = (label_step s k m lt yet e).related.leads.1.0.within
 
   counted : (s : State) → s.number < point_count t → nat_lt s.number (point_count t) ≡ true
   counted s lt = grind (arith, nat_tests)
@@ -86,8 +86,8 @@ module _ (a : Automaton) (p : PatternStates) (t : PointTable) (b : Owned) (is : 
   follows_traced (text c d) s (takes_text n r) lt (inl h) = inl (record { left = h.0; has = record { run = takes_text n r; at = h.1; is = refl } })
   follows_traced (text c d) s (takes_text n r) lt (inr h) =
       let m = h.2 in
-      let step = zip_there (IsTextStep p.auto (pattern_of t s) t.points) (moves_at (points_of t) s).texts (row_at t.rows.items s.number).texts h.1 n m (has s lt h.0).text_steps h.3 h.4 in
-      let to : after_text p.auto (pattern_of t s) n ≡ pattern_of t m.rest = ap (text_rest_or (pattern_of t s)) step.there ∙ sym step.leads.leads.pattern_is in
+      let step = zip_there (IsTextStep p.auto (pattern_of t s) t.points) (moves_at (points_of t) s).texts (row_at t.rows.items s.number).texts h.1 n m (has s lt h.0).texts.steps h.3 h.4 in
+      let to : after_text p.auto (pattern_of t s) n ≡ pattern_of t m.rest = ap (text_rest_or (pattern_of t s)) step.there ∙ sym step.leads.0.pattern_is in
       inr (
         h.0,
         record {
@@ -96,7 +96,7 @@ module _ (a : Automaton) (p : PatternStates) (t : PointTable) (b : Owned) (is : 
           there = h.3;
           has = h.5;
           owned = text_owned s h.1 n lt h.4;
-          rest = subst (λ (q : State). Traced a p t b d m.rest (trace_of p.auto b q r)) (sym to) (follows_traced d m.rest r step.leads.leads.within h.6);
+          rest = subst (λ (q : State). Traced a p t b d m.rest (trace_of p.auto b q r)) (sym to) (follows_traced d m.rest r step.leads.0.within h.6);
         },
       )
   follows_traced (text c d) s (takes_element n k r) lt h = absurd h
@@ -105,9 +105,9 @@ module _ (a : Automaton) (p : PatternStates) (t : PointTable) (b : Owned) (is : 
   follows_traced (element l c d) s (takes_element n k r) lt (inl h) = inl (record { left = h.0; has = record { run = takes_element n k r; at = h.1; is = refl } })
   follows_traced (element l c d) s (takes_element n k r) lt (inr h) =
       let m = h.2 in
-      let step = zip_there (IsLabelStep p.auto (pattern_of t s) t.points) (moves_at (points_of t) s).labels (row_at t.rows.items s.number).labels h.1 n m (has s lt h.0).label_steps h.3 h.4 in
-      let into : in_element p.auto (pattern_of t s) n ≡ pattern_of t m.content = ap (content_or (pattern_of t s)) step.there ∙ sym step.leads.content.pattern_is in
-      let to : after_element p.auto (pattern_of t s) n ≡ pattern_of t m.rest = ap (rest_or (pattern_of t s)) step.there ∙ sym step.leads.rest.pattern_is in
+      let step = zip_there (IsLabelStep p.auto (pattern_of t s) t.points) (moves_at (points_of t) s).labels (row_at t.rows.items s.number).labels h.1 n m (has s lt h.0).labels.steps h.3 h.4 in
+      let into : in_element p.auto (pattern_of t s) n ≡ pattern_of t m.content = ap (content_or (pattern_of t s)) step.there ∙ sym step.leads.0.pattern_is in
+      let to : after_element p.auto (pattern_of t s) n ≡ pattern_of t m.rest = ap (rest_or (pattern_of t s)) step.there ∙ sym step.leads.1.0.pattern_is in
       inr (
         h.0,
         record {
@@ -116,8 +116,8 @@ module _ (a : Automaton) (p : PatternStates) (t : PointTable) (b : Owned) (is : 
           there = h.3;
           has = h.5;
           owned = label_owned s h.1 n lt h.4;
-          content = subst (λ (q : State). Traced a p t b c m.content (trace_of p.auto b q k)) (sym into) (follows_traced c m.content k step.leads.content.within h.6);
-          rest = subst (λ (q : State). Traced a p t b d m.rest (trace_of p.auto b q r)) (sym to) (follows_traced d m.rest r step.leads.rest.within h.7);
+          content = subst (λ (q : State). Traced a p t b c m.content (trace_of p.auto b q k)) (sym into) (follows_traced c m.content k step.leads.0.within h.6);
+          rest = subst (λ (q : State). Traced a p t b d m.rest (trace_of p.auto b q r)) (sym to) (follows_traced d m.rest r step.leads.1.0.within h.7);
         },
       )
 
@@ -144,8 +144,8 @@ module _ (a : Automaton) (p : PatternStates) (t : PointTable) (b : Owned) (is : 
   followed (text c d) s (at_text own r) lt (inr (yet, h)) =
       let f = text_step s h.number h.step lt yet h.there in
       let step = f.related in
-      let to : after_text p.auto (pattern_of t s) f.number ≡ pattern_of t h.step.rest = ap (text_rest_or (pattern_of t s)) step.there ∙ sym step.leads.leads.pattern_is in
-      let rest = followed d h.step.rest r step.leads.leads.within h.rest in
+      let to : after_text p.auto (pattern_of t s) f.number ≡ pattern_of t h.step.rest = ap (text_rest_or (pattern_of t s)) step.there ∙ sym step.leads.0.pattern_is in
+      let rest = followed d h.step.rest r step.leads.0.within h.rest in
       let whose : b.text (pattern_of t s) f.number ≡ own = sym (text_owned s h.number f.number lt f.there) ∙ h.owned in
       record {
         run = takes_text f.number rest.run;
@@ -160,10 +160,10 @@ module _ (a : Automaton) (p : PatternStates) (t : PointTable) (b : Owned) (is : 
   followed (element l c d) s (at_element own k r) lt (inr (yet, h)) =
       let f = label_step s h.number h.step lt yet h.there in
       let step = f.related in
-      let into : in_element p.auto (pattern_of t s) f.number ≡ pattern_of t h.step.content = ap (content_or (pattern_of t s)) step.there ∙ sym step.leads.content.pattern_is in
-      let to : after_element p.auto (pattern_of t s) f.number ≡ pattern_of t h.step.rest = ap (rest_or (pattern_of t s)) step.there ∙ sym step.leads.rest.pattern_is in
-      let inside = followed c h.step.content k step.leads.content.within h.content in
-      let rest = followed d h.step.rest r step.leads.rest.within h.rest in
+      let into : in_element p.auto (pattern_of t s) f.number ≡ pattern_of t h.step.content = ap (content_or (pattern_of t s)) step.there ∙ sym step.leads.0.pattern_is in
+      let to : after_element p.auto (pattern_of t s) f.number ≡ pattern_of t h.step.rest = ap (rest_or (pattern_of t s)) step.there ∙ sym step.leads.1.0.pattern_is in
+      let inside = followed c h.step.content k step.leads.0.within h.content in
+      let rest = followed d h.step.rest r step.leads.1.0.within h.rest in
       let whose : b.element (pattern_of t s) f.number ≡ own = sym (label_owned s h.number f.number lt f.there) ∙ h.owned in
       let in_run : Trace = trace_of p.auto b (in_element p.auto (pattern_of t s) f.number) inside.run in
       let to_run : Trace = trace_of p.auto b (after_element p.auto (pattern_of t s) f.number) rest.run in

@@ -1,6 +1,6 @@
 -- Runs through points are the pattern's runs on what the points mean.
-use Rattle.std.proofs.Common.{ℕ, zero, suc, ◌<◌, ◌≡◌, inl, inr, Bool, true, false, not, nat_eq, ◌&&◌, ◌||◌, List, [], ◌∷◌, length, Option, Some, None, refl, sym, ap, ◌∙◌, subst, arith}
-use Rattle.std.specs.List.{AllZip, slice_get}
+use Rattle.std.proofs.Common.{ℕ, zero, suc, ◌<◌, ◌≡◌, inl, inr, Bool, true, false, not, nat_eq, ◌&&◌, ◌||◌, List, [], ◌∷◌, take, length, Option, Some, None, refl, sym, ap, ◌∙◌, subst, arith}
+use Rattle.std.specs.List.{AllZip, list_any, slice_get}
 use Rattle.std.specs.Option.{IsSomeAnd}
 use Rattle.std.proofs.lemmas.Bool.Decides.{nat_tests}
 use Rattle.xd_doc.specs.Document.{Document, empty, text, element}
@@ -17,9 +17,9 @@ use Rattle.xd_boole.specs.Meaning.{ElementFirst, TextFirst, any_accepts, element
 use Rattle.xd_boole.proofs.Bools.{and_both, and_left, and_right, or_right, or_true}
 use Rattle.xd_points.specs.declared.points.Points.{Points}
 use Rattle.xd_points.specs.Following.{Follows, FollowsAllRuns, IsRunAt}
-use Rattle.xd_points.specs.Points.{AreExpanded, HasMoves, IsLabelStep, IsTextStep, RowView, any_before, any_for, any_text_before, is_old, label_means, meaning, point_at, row_at, state_at, text_means}
+use Rattle.xd_points.specs.Points.{AreExpanded, HasMoves, IsLabelStep, IsTextStep, RowView, any_for, is_old, label_means, meaning, point_at, row_at, state_at, text_means}
 use Rattle.xd_points.proofs.FirstRunLaw.{by_accepts}
-use Rattle.xd_points.proofs.MakesMovesLemmas.{not_true, or_left, some_passes}
+use Rattle.xd_points.proofs.StandForMovesLemmas.{not_true, or_left, some_passes}
 
 pub zip_there : {A : Type 0} (R : A → ℕ → Type 0) (xs : List A) (ys : List ℕ) (k n : ℕ) (x : A) → AllZip R xs ys → slice_get xs k ≡ Some x → slice_get ys k ≡ Some n → R x n
 zip_there R [] ys k n x h e f = absurd (cc)
@@ -92,14 +92,14 @@ module _ (first : Bool) (a : Automaton) (t : PatternStates) (p : Points) (rows :
       let q : TextFirst = record { characters = c; rest = d } in
       let moves = has i lt h.0 in
       let v = point_at p.points.items i in
-      let step = zip_there (IsTextStep t.auto v.pattern p) (moves_at p.made (state_at i)).texts (row_at rows i).texts h.1 n m moves.text_steps h.3 h.4 in
-      let after = to d m.rest.number r step.leads.leads.within h.6 in
+      let step = zip_there (IsTextStep t.auto v.pattern p) (moves_at p.made (state_at i)).texts (row_at rows i).texts h.1 n m moves.texts.steps h.3 h.4 in
+      let after = to d m.rest.number r step.leads.0.within h.6 in
       let passes = and_both (class_has m.words c) (meaning a t p m.rest.number d) h.5 after.0 in
-      let yes = sym (moves.texts n q) ∙ for_there (text_means a t p q) n (moves_at p.made (state_at i)).texts (row_at rows i).texts h.1 m h.3 h.4 passes in
+      let yes = sym (moves.texts.taken n q) ∙ for_there (text_means a t p q) n (moves_at p.made (state_at i)).texts (row_at rows i).texts h.1 m h.3 h.4 passes in
       let xs = (moves_at t.auto v.pattern).texts in
       let there = passes_at (text_takes t.auto q) xs n in
       let right = any_accepts t.taken.auto v.rights (text_of q) in
-      let before = any_text_before t.auto v.pattern (place_before first n) q in
+      let before = list_any (text_takes t.auto q) (take (place_before first n) xs) in
       let more = and_right (accepts a (text_of q) v.left) (there && not (right || before)) yes in
       let takes = and_left there (not (right || before)) more in
       let neither = not_true (right || before) (and_right there (not (right || before)) more) in
@@ -108,7 +108,7 @@ module _ (first : Bool) (a : Automaton) (t : PatternStates) (p : Points) (rows :
         and_both (accepts a (text_of q) v.left) (accepts t.auto (text_of q) v.pattern && not right) (and_left (accepts a (text_of q) v.left) (there && not (right || before)) yes)
             (and_both (accepts t.auto (text_of q) v.pattern) (not right) (some_passes (text_takes t.auto q) xs n takes) (ap not none)),
         subst (λ (o : Option TextMove). IsSomeAnd o (λ w. (class_has w.words c ≡ true) × (before ≡ false) × IsRunBy first t.auto d w.rest r)) (sym step.there)
-            (and_left (class_has step.origin.words c) (accepts t.auto d step.origin.rest) one, or_right right before neither, subst (λ (s : State). IsRunBy first t.auto d s r) step.leads.leads.pattern_is after.1),
+            (and_left (class_has step.origin.words c) (accepts t.auto d step.origin.rest) one, or_right right before neither, subst (λ (s : State). IsRunBy first t.auto d s r) step.leads.0.pattern_is after.1),
       )
   to (element l c d) i ends lt h = absurd h
   to (element l c d) i (takes_text n r) lt h = absurd h
@@ -118,15 +118,15 @@ module _ (first : Bool) (a : Automaton) (t : PatternStates) (p : Points) (rows :
       let q : ElementFirst = record { label = l; content = c; rest = d } in
       let moves = has i lt h.0 in
       let v = point_at p.points.items i in
-      let step = zip_there (IsLabelStep t.auto v.pattern p) (moves_at p.made (state_at i)).labels (row_at rows i).labels h.1 n m moves.label_steps h.3 h.4 in
-      let inside = to c m.content.number k step.leads.content.within h.6 in
-      let after = to d m.rest.number r step.leads.rest.within h.7 in
+      let step = zip_there (IsLabelStep t.auto v.pattern p) (moves_at p.made (state_at i)).labels (row_at rows i).labels h.1 n m moves.labels.steps h.3 h.4 in
+      let inside = to c m.content.number k step.leads.0.within h.6 in
+      let after = to d m.rest.number r step.leads.1.0.within h.7 in
       let passes = and_both (class_has m.class l) (meaning a t p m.content.number c && meaning a t p m.rest.number d) h.5 (and_both (meaning a t p m.content.number c) (meaning a t p m.rest.number d) inside.0 after.0) in
-      let yes = sym (moves.labels n q) ∙ for_there (label_means a t p q) n (moves_at p.made (state_at i)).labels (row_at rows i).labels h.1 m h.3 h.4 passes in
+      let yes = sym (moves.labels.taken n q) ∙ for_there (label_means a t p q) n (moves_at p.made (state_at i)).labels (row_at rows i).labels h.1 m h.3 h.4 passes in
       let xs = (moves_at t.auto v.pattern).labels in
       let there = passes_at (move_takes t.auto q) xs n in
       let right = any_accepts t.taken.auto v.rights (element_of q) in
-      let before = any_before t.auto v.pattern (place_before first n) q in
+      let before = list_any (move_takes t.auto q) (take (place_before first n) xs) in
       let more = and_right (accepts a (element_of q) v.left) (there && not (right || before)) yes in
       let takes = and_left there (not (right || before)) more in
       let neither = not_true (right || before) (and_right there (not (right || before)) more) in
@@ -137,8 +137,8 @@ module _ (first : Bool) (a : Automaton) (t : PatternStates) (p : Points) (rows :
         subst (λ (o : Option LabelMove). IsSomeAnd o (λ w. (class_has w.class l ≡ true) × (before ≡ false) × IsRunBy first t.auto c w.content k × IsRunBy first t.auto d w.rest r)) (sym step.there) (
           and_left (class_has step.origin.class l) (accepts t.auto c step.origin.content && accepts t.auto d step.origin.rest) one,
           or_right right before neither,
-          subst (λ (s : State). IsRunBy first t.auto c s k) step.leads.content.pattern_is inside.1,
-          subst (λ (s : State). IsRunBy first t.auto d s r) step.leads.rest.pattern_is after.1,
+          subst (λ (s : State). IsRunBy first t.auto c s k) step.leads.0.pattern_is inside.1,
+          subst (λ (s : State). IsRunBy first t.auto d s r) step.leads.1.0.pattern_is after.1,
         ),
       )
 
@@ -159,16 +159,16 @@ module _ (first : Bool) (a : Automaton) (t : PatternStates) (p : Points) (rows :
           let v = point_at p.points.items i in
           let xs = (moves_at t.auto v.pattern).texts in
           let right = any_accepts t.taken.auto v.rights (text_of q) in
-          let before = any_text_before t.auto v.pattern (place_before first n) q in
+          let before = list_any (text_takes t.auto q) (take (place_before first n) xs) in
           let from = origin (slice_get xs n) (λ w. (class_has w.words c ≡ true) × (before ≡ false) × IsRunBy first t.auto d w.rest r) h.1 in
           let takes = passes_there (text_takes t.auto q) xs n from.item from.is ∙ and_both (class_has from.item.words c) (accepts t.auto d from.item.rest) from.holds.0 (by_accepts first t.auto d from.item.rest r from.holds.2) in
           let left = and_left (accepts a (text_of q) v.left) (accepts t.auto (text_of q) v.pattern && not right) h.0 in
           let none = not_true right (and_right (accepts t.auto (text_of q) v.pattern) (not right) (and_right (accepts a (text_of q) v.left) (accepts t.auto (text_of q) v.pattern && not right) h.0)) in
-          let yes = moves.texts n q ∙ and_both (accepts a (text_of q) v.left) (passes_at (text_takes t.auto q) xs n && not (right || before)) left (and_both (passes_at (text_takes t.auto q) xs n) (not (right || before)) takes (or_none right before none from.holds.1)) in
+          let yes = moves.texts.taken n q ∙ and_both (accepts a (text_of q) v.left) (passes_at (text_takes t.auto q) xs n && not (right || before)) left (and_both (passes_at (text_takes t.auto q) xs n) (not (right || before)) takes (or_none right before none from.holds.1)) in
           let f = found (text_means a t p q) n (moves_at p.made (state_at i)).texts (row_at rows i).texts yes in
-          let step = zip_there (IsTextStep t.auto v.pattern p) (moves_at p.made (state_at i)).texts (row_at rows i).texts f.place n f.item moves.text_steps f.there f.number in
+          let step = zip_there (IsTextStep t.auto v.pattern p) (moves_at p.made (state_at i)).texts (row_at rows i).texts f.place n f.item moves.texts.steps f.there f.number in
           let same = some_same (slice_get xs n) from.item step.origin from.is step.there in
-          let to_pattern = ap (λ (w : TextMove). w.rest) same ∙ sym step.leads.leads.pattern_is in
+          let to_pattern = ap (λ (w : TextMove). w.rest) same ∙ sym step.leads.0.pattern_is in
           inr (
             o,
             f.place,
@@ -176,7 +176,7 @@ module _ (first : Bool) (a : Automaton) (t : PatternStates) (p : Points) (rows :
             f.there,
             f.number,
             and_left (class_has f.item.words c) (meaning a t p f.item.rest.number d) f.passes,
-            rest f.item.rest.number step.leads.leads.within (and_right (class_has f.item.words c) (meaning a t p f.item.rest.number d) f.passes, subst (λ (s : State). IsRunBy first t.auto d s r) to_pattern from.holds.2),
+            rest f.item.rest.number step.leads.0.within (and_right (class_has f.item.words c) (meaning a t p f.item.rest.number d) f.passes, subst (λ (s : State). IsRunBy first t.auto d s r) to_pattern from.holds.2),
           )
   back (element l c d) i ends lt h = absurd h.1
   back (element l c d) i (takes_text n r) lt h = absurd h.1
@@ -191,21 +191,21 @@ module _ (first : Bool) (a : Automaton) (t : PatternStates) (p : Points) (rows :
           let v = point_at p.points.items i in
           let xs = (moves_at t.auto v.pattern).labels in
           let right = any_accepts t.taken.auto v.rights (element_of q) in
-          let before = any_before t.auto v.pattern (place_before first n) q in
+          let before = list_any (move_takes t.auto q) (take (place_before first n) xs) in
           let from = origin (slice_get xs n) (λ w. (class_has w.class l ≡ true) × (before ≡ false) × IsRunBy first t.auto c w.content k × IsRunBy first t.auto d w.rest r) h.1 in
           let takes = passes_there (move_takes t.auto q) xs n from.item from.is
           ∙ and_both (class_has from.item.class l) (accepts t.auto c from.item.content && accepts t.auto d from.item.rest) from.holds.0
           (and_both (accepts t.auto c from.item.content) (accepts t.auto d from.item.rest) (by_accepts first t.auto c from.item.content k from.holds.2) (by_accepts first t.auto d from.item.rest r from.holds.3)) in
           let left = and_left (accepts a (element_of q) v.left) (accepts t.auto (element_of q) v.pattern && not right) h.0 in
           let none = not_true right (and_right (accepts t.auto (element_of q) v.pattern) (not right) (and_right (accepts a (element_of q) v.left) (accepts t.auto (element_of q) v.pattern && not right) h.0)) in
-          let yes = moves.labels n q ∙ and_both (accepts a (element_of q) v.left) (passes_at (move_takes t.auto q) xs n && not (right || before)) left (and_both (passes_at (move_takes t.auto q) xs n) (not (right || before)) takes (or_none right before none from.holds.1)) in
+          let yes = moves.labels.taken n q ∙ and_both (accepts a (element_of q) v.left) (passes_at (move_takes t.auto q) xs n && not (right || before)) left (and_both (passes_at (move_takes t.auto q) xs n) (not (right || before)) takes (or_none right before none from.holds.1)) in
           let f = found (label_means a t p q) n (moves_at p.made (state_at i)).labels (row_at rows i).labels yes in
-          let step = zip_there (IsLabelStep t.auto v.pattern p) (moves_at p.made (state_at i)).labels (row_at rows i).labels f.place n f.item moves.label_steps f.there f.number in
+          let step = zip_there (IsLabelStep t.auto v.pattern p) (moves_at p.made (state_at i)).labels (row_at rows i).labels f.place n f.item moves.labels.steps f.there f.number in
           let same = some_same (slice_get xs n) from.item step.origin from.is step.there in
           let both = meaning a t p f.item.content.number c && meaning a t p f.item.rest.number d in
           let parts = and_right (class_has f.item.class l) both f.passes in
-          let in_pattern = ap (λ (w : LabelMove). w.content) same ∙ sym step.leads.content.pattern_is in
-          let to_pattern = ap (λ (w : LabelMove). w.rest) same ∙ sym step.leads.rest.pattern_is in
+          let in_pattern = ap (λ (w : LabelMove). w.content) same ∙ sym step.leads.0.pattern_is in
+          let to_pattern = ap (λ (w : LabelMove). w.rest) same ∙ sym step.leads.1.0.pattern_is in
           inr (
             o,
             f.place,
@@ -213,8 +213,8 @@ module _ (first : Bool) (a : Automaton) (t : PatternStates) (p : Points) (rows :
             f.there,
             f.number,
             and_left (class_has f.item.class l) both f.passes,
-            content f.item.content.number step.leads.content.within (and_left (meaning a t p f.item.content.number c) (meaning a t p f.item.rest.number d) parts, subst (λ (s : State). IsRunBy first t.auto c s k) in_pattern from.holds.2),
-            rest f.item.rest.number step.leads.rest.within (and_right (meaning a t p f.item.content.number c) (meaning a t p f.item.rest.number d) parts, subst (λ (s : State). IsRunBy first t.auto d s r) to_pattern from.holds.3),
+            content f.item.content.number step.leads.0.within (and_left (meaning a t p f.item.content.number c) (meaning a t p f.item.rest.number d) parts, subst (λ (s : State). IsRunBy first t.auto c s k) in_pattern from.holds.2),
+            rest f.item.rest.number step.leads.1.0.within (and_right (meaning a t p f.item.content.number c) (meaning a t p f.item.rest.number d) parts, subst (λ (s : State). IsRunBy first t.auto d s r) to_pattern from.holds.3),
           )
 
 pub follows_all_runs : FollowsAllRuns

@@ -1,6 +1,6 @@
 -- How points grow, and what moves mean then.
 use Rattle.std.proofs.Common.{ℕ, ◌<◌, ◌≡◌, Bool, false, ◌&&◌, ◌||◌, List, [], ◌∷◌, ◌++◌, length, inl, inr, refl, sym, ap, ◌∙◌, subst, arith}
-use Rattle.std.specs.List.{AllByRecursion, list_any}
+use Rattle.std.specs.List.{AllByRecursion, AllZip, list_any}
 use Rattle.std.proofs.lemmas.Bool.{cases_lt}
 use Rattle.std.proofs.lemmas.List.Folds.{list_any-append}
 use Rattle.xd_doc.specs.Document.{Document}
@@ -13,10 +13,10 @@ use Rattle.xd_points.specs.declared.points.Points.{Points}
 use Rattle.xd_points.specs.declared.patterns.PatternStates.{PatternStates}
 use Rattle.xd_boole.specs.Meaning.{ElementFirst, TextFirst}
 use Rattle.xd_points.specs.Meaning.{PointView, means}
-use Rattle.xd_boole.specs.declared.groups.MoveSide.{MoveSide}
 use Rattle.xd_boole.proofs.GrowsLemmas.{any_agree}
-use Rattle.xd_points.specs.Points.{AddsMoves, ArePoints, Grows, IsBare, KeepsPoints, LabelLeads, LeadsTo, StandsFor, TextLeads, meaning, label_means, text_means}
+use Rattle.xd_points.specs.Points.{AddsMoves, ArePoints, Grows, IsBare, KeepsPoints, LeadsTo, StandsFor, label_means, label_states, meaning, text_means, text_states}
 use Rattle.xd_boole.proofs.Lists.{all_push, all_map}
+use Rattle.xd_points.proofs.ArePointsLemmas.{grows_same}
 use Rattle.xd_boole.proofs.Bools.{or_nothing, or_join}
 
 pub grows_trans : (p q r : Points) → Grows p q → Grows q r → Grows p r
@@ -40,11 +40,11 @@ keeps_same p = record { longer = omega arith; points = λ i lt. refl }
 pub leads_more : (p q : Points) (pattern s : State) → KeepsPoints p q → LeadsTo p pattern s → LeadsTo q pattern s
 leads_more p q pattern s grows l = record { within = omega (arith, l.within, grows.longer); pattern_is = ap (λ (w : PointView). w.pattern) (grows.points s.number l.within) ∙ l.pattern_is }
 
-pub labels_more : (part : MoveSide) (p q : Points) → KeepsPoints p q → (m : LabelMove) → LabelLeads part p m → LabelLeads part q m
-labels_more part p q grows m l = record { content = leads_more p q part.content m.content grows l.content; rest = leads_more p q part.rest m.rest grows l.rest }
-
-pub texts_more : (rest : State) (p q : Points) → KeepsPoints p q → (m : TextMove) → TextLeads rest p m → TextLeads rest q m
-texts_more rest p q grows m l = record { leads = leads_more p q rest m.rest grows l.leads }
+pub all_lead : (p q : Points) → KeepsPoints p q → (patterns ss : List State) → AllZip (LeadsTo p) patterns ss → AllZip (LeadsTo q) patterns ss
+all_lead p q grows [] [] l = tt
+all_lead p q grows [] (s ∷ ss) l = absurd l
+all_lead p q grows (t ∷ ts) [] l = absurd l
+all_lead p q grows (t ∷ ts) (s ∷ ss) l = (leads_more p q t s grows l.0, all_lead p q grows ts ss l.1)
 
 -- the state of a point stands for the point's state of the pattern
 pub leads_here : (a : Automaton) (b : PatternStates) (p q : Points) (of : PointView) (s : State) → StandsFor a b p of s → KeepsPoints p q → LeadsTo q of.pattern s
@@ -54,59 +54,72 @@ module _ (a : Automaton) (b : PatternStates) where
   pub meaning_stays : (old new : Points) → KeepsPoints old new → (i : ℕ) → i < length old.points.items → (d : Document) → meaning a b new i d ≡ meaning a b old i d
   meaning_stays old new grows i lt d = ap (λ p. means a b p d) (grows.points i lt)
 
-  pub label_stays : (part : MoveSide) (old new : Points) → KeepsPoints old new → (q : ElementFirst) (m : LabelMove) → LabelLeads part old m → label_means a b new q m ≡ label_means a b old q m
-  label_stays part old new grows q m leads =
-      ap (λ w. class_has m.class q.label && (w && meaning a b new m.rest.number q.rest)) (meaning_stays old new grows m.content.number leads.content.within q.content)
-      ∙ ap (λ w. class_has m.class q.label && (meaning a b old m.content.number q.content && w)) (meaning_stays old new grows m.rest.number leads.rest.within q.rest)
+  all_mean : (old new : Points) → KeepsPoints old new → (patterns ss : List State) → AllZip (LeadsTo old) patterns ss → AllByRecursion (λ s. (d : Document) → meaning a b new s.number d ≡ meaning a b old s.number d) ss
+  all_mean old new grows [] [] l = tt
+  all_mean old new grows [] (s ∷ ss) l = absurd l
+  all_mean old new grows (t ∷ ts) [] l = absurd l
+  all_mean old new grows (t ∷ ts) (s ∷ ss) l = (λ d. meaning_stays old new grows s.number l.0.within d, all_mean old new grows ts ss l.1)
 
-  pub text_stays : (rest : State) (old new : Points) → KeepsPoints old new → (q : TextFirst) (m : TextMove) → TextLeads rest old m → text_means a b new q m ≡ text_means a b old q m
-  text_stays rest old new grows q m leads = ap (λ w. class_has m.words q.characters && w) (meaning_stays old new grows m.rest.number leads.leads.within q.rest)
+  -- what a move means, by what the states mean that it leads to
+  pub means_stay : {M Q : Type 0} (has : M → Q → Bool) (states : M → List State) (goes_on : (State → Document → Bool) → Q → M → Bool) (by_move : Points → Q → M → Bool)
+      → ((p : Points) (q : Q) → by_move p q ≡ (λ m. has m q && goes_on (λ s d. meaning a b p s.number d) q m))
+      → ((t u : State → Document → Bool) (q : Q) (m : M) → AllByRecursion (λ s. (d : Document) → t s d ≡ u s d) (states m) → goes_on t q m ≡ goes_on u q m)
+      → (patterns : List State) (old new : Points) → KeepsPoints old new → (q : Q) (m : M) → AllZip (LeadsTo old) patterns (states m) → by_move new q m ≡ by_move old q m
+  means_stay {M} has states goes_on by_move meant agree patterns old new grows q m leads =
+      ap (λ (f : M → Bool). f m) (meant new q)
+      ∙ ap (λ w. has m q && w) (agree (λ s d. meaning a b new s.number d) (λ s d. meaning a b old s.number d) q m (all_mean old new grows patterns (states m) leads))
+      ∙ sym (ap (λ (f : M → Bool). f m) (meant old q))
+
+  pub label_stays : (patterns : List State) (old new : Points) → KeepsPoints old new → (q : ElementFirst) (m : LabelMove) → AllZip (LeadsTo old) patterns (label_states m) → label_means a b new q m ≡ label_means a b old q m
+  label_stays = means_stay (λ m q. class_has m.class q.label) label_states (λ t q m. t m.content q.content && t m.rest q.rest) (label_means a b) (λ p q. refl)
+      (λ t u q m same. ap (λ v. v && t m.rest q.rest) (same.0 q.content) ∙ ap (λ v. u m.content q.content && v) (same.1.0 q.rest))
+
+  pub text_stays : (patterns : List State) (old new : Points) → KeepsPoints old new → (q : TextFirst) (m : TextMove) → AllZip (LeadsTo old) patterns (text_states m) → text_means a b new q m ≡ text_means a b old q m
+  text_stays = means_stay (λ m q. class_has m.words q.characters) text_states (λ t q m. t m.rest q.rest) (text_means a b) (λ p q. refl) (λ t u q m same. same.0 q.rest)
 
   -- the state of a point means what the point says, then and later
   pub state_means : (p q : Points) (of : PointView) (s : State) → StandsFor a b p of s → KeepsPoints p q → (d : Document) → meaning a b q s.number d ≡ means a b of d
   state_means p q of s is grows d = meaning_stays p q grows s.number is.leads.within d ∙ is.means d
 
 -- moves on elements and moves on texts alike
-module _ {M Q : Type 0} (Leads : Points → M → Type 0) (by_move : Points → Q → M → Bool) (a : Automaton) (b : PatternStates)
-    (stays : (old new : Points) → KeepsPoints old new → (q : Q) (m : M) → Leads old m → by_move new q m ≡ by_move old q m)
-    (more : (p q : Points) → KeepsPoints p q → (m : M) → Leads p m → Leads q m) where
-  pub all_stay : (old new : Points) → KeepsPoints old new → (ms : List M) → AllByRecursion (Leads old) ms → (q : Q) → list_any (by_move new q) ms ≡ list_any (by_move old q) ms
-  all_stay old new grows ms below q = any_agree (Leads old) (by_move new q) (by_move old q) ms below (stays old new grows q)
-
-  pub adds_none : (p : Points) (ms : List M) (f : Q → Bool) → ArePoints a b p → AllByRecursion (Leads p) ms → Grows p p → ((q : Q) → f q ≡ false) → AddsMoves Leads by_move a b p p ms ms f
-  adds_none p ms f whole below same none = record {
+module _ {M Q : Type 0} {Leads : Points → M → Type 0} {by_move : Points → Q → M → Bool} {a : Automaton} {b : PatternStates} where
+  pub adds_none : {p : Points} {ms : List M} {f : Q → Bool} → ArePoints a b p → AllByRecursion (Leads p) ms → ((q : Q) → f q ≡ false) → AddsMoves Leads by_move a b p p ms ms f
+  adds_none {p} {ms} {f} whole below none = record {
     whole = whole;
-    grows = same;
+    grows = grows_same p;
     leads = below;
     taken = λ q. sym (or_nothing (list_any (by_move p q) ms)) ∙ ap (λ w. list_any (by_move p q) ms || w) (sym (none q));
   }
 
-  pub adds_like : (old new : Points) (before after : List M) (f g : Q → Bool) → AddsMoves Leads by_move a b old new before after f → ((q : Q) → f q ≡ g q) → AddsMoves Leads by_move a b old new before after g
-  adds_like old new before after f g h same = record {
+  pub adds_like : {old new : Points} {before after : List M} {f g : Q → Bool} → AddsMoves Leads by_move a b old new before after f → ((q : Q) → f q ≡ g q) → AddsMoves Leads by_move a b old new before after g
+  adds_like {old} {new} {before} {after} {f} {g} h same = record {
     whole = h.whole;
     grows = h.grows;
     leads = h.leads;
     taken = λ q. h.taken q ∙ ap (λ w. list_any (by_move old q) before || w) (same q);
   }
 
-  pub adds_then : (p q r : Points) (x y z : List M) (f g h : Q → Bool) → AddsMoves Leads by_move a b p q x y f → AddsMoves Leads by_move a b q r y z g → ((w : Q) → (f w || g w) ≡ h w) → AddsMoves Leads by_move a b p r x z h
-  adds_then p q r x y z f g h one two same = record {
+  pub adds_then : {p q r : Points} {x y z : List M} {f g h : Q → Bool} → AddsMoves Leads by_move a b p q x y f → AddsMoves Leads by_move a b q r y z g → ((w : Q) → (f w || g w) ≡ h w) → AddsMoves Leads by_move a b p r x z h
+  adds_then {p} {q} {r} {x} {y} {z} {f} {g} {h} one two same = record {
     whole = two.whole;
     grows = grows_trans p q r one.grows two.grows;
     leads = two.leads;
     taken = λ w. two.taken w ∙ ap (λ v. v || g w) (one.taken w) ∙ or_join (list_any (by_move p w) x) (f w) (g w) ∙ ap (λ v. list_any (by_move p w) x || v) (same w);
   }
 
-  -- one more move
-  pub adds_push : (p r : Points) (ms after : List M) (m : M) (takes : Q → Bool) → after ≡ ms ++ m ∷ [] → AllByRecursion (Leads p) ms → Grows p r → ArePoints a b r → Leads r m
-      → ((q : Q) → by_move r q m ≡ takes q) → AddsMoves Leads by_move a b p r ms after takes
+-- one more move
+module _ {M Q : Type 0} (patterns : List State) (states : M → List State) (by_move : Points → Q → M → Bool) (a : Automaton) (b : PatternStates)
+    (stays : (patterns : List State) (old new : Points) → KeepsPoints old new → (q : Q) (m : M) → AllZip (LeadsTo old) patterns (states m) → by_move new q m ≡ by_move old q m) where
+  pub adds_push : (p r : Points) (ms after : List M) (m : M) (takes : Q → Bool) → after ≡ ms ++ m ∷ [] → AllByRecursion (λ w. AllZip (LeadsTo p) patterns (states w)) ms → Grows p r → ArePoints a b r → AllZip (LeadsTo r) patterns (states m)
+      → ((q : Q) → by_move r q m ≡ takes q) → AddsMoves (λ q w. AllZip (LeadsTo q) patterns (states w)) by_move a b p r ms after takes
   adds_push p r ms after m takes is below grows whole there means_so = record {
     whole = whole;
     grows = grows;
-    leads = subst (AllByRecursion (Leads r)) (sym is)
-        (all_push (Leads r) ms m (all_map (Leads p) (Leads r) ms (more p r (keeps p r grows)) below) there);
+    leads = subst (AllByRecursion (λ w. AllZip (LeadsTo r) patterns (states w))) (sym is)
+        (all_push (λ w. AllZip (LeadsTo r) patterns (states w)) ms m
+        (all_map (λ w. AllZip (LeadsTo p) patterns (states w)) (λ w. AllZip (LeadsTo r) patterns (states w)) ms (λ w. all_lead p r (keeps p r grows) patterns (states w)) below) there);
     taken = λ q.
         ap (list_any (by_move r q)) is ∙ list_any-append (by_move r q) ms (m ∷ [])
-        ∙ ap (λ w. w || (by_move r q m || false)) (all_stay p r (keeps p r grows) ms below q)
+        ∙ ap (λ w. w || (by_move r q m || false)) (any_agree (λ w. AllZip (LeadsTo p) patterns (states w)) (by_move r q) (by_move p q) ms below (stays patterns p r (keeps p r grows) q))
         ∙ ap (λ w. list_any (by_move p q) ms || w) (or_nothing (by_move r q m) ∙ means_so q);
   }

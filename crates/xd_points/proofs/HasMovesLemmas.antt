@@ -7,71 +7,51 @@ use Rattle.xd_auto.specs.declared.auto.LabelMove.{LabelMove}
 use Rattle.xd_auto.specs.declared.auto.TextMove.{TextMove}
 use Rattle.xd_auto.specs.Automaton.{Automaton, ChangesOnly, StateMoves, moves_at}
 use Rattle.xd_points.specs.declared.patterns.PatternStates.{PatternStates}
-use Rattle.xd_boole.specs.Meaning.{ElementFirst, TextFirst}
 use Rattle.xd_points.specs.Meaning.{PointView, is_old_point}
 use Rattle.xd_boole.proofs.ArePointsLemmas.{at_end, at_front, place_cases}
 use Rattle.xd_points.specs.declared.points.Points.{Points}
-use Rattle.xd_points.specs.Points.{AreExpanded, ArePoints, Grows, HasMoves, IsBare, IsLabelStep, IsTextStep, KeepMoves, KeepsPoints, MakesLabels, MakesTexts, RowView, any_for, is_old, label_means, label_takes, no_row, point_at, row_at, state_at, text_means, text_takes_by}
-use Rattle.xd_points.proofs.GrowsLemmas.{grows_trans, keeps}
-use Rattle.xd_points.proofs.MakesMovesLemmas.{label_step_more, label_step_stays, steps_stay, text_step_more, text_step_stays, zip_all, zip_map}
+use Rattle.xd_points.specs.Points.{AreExpanded, AreMovesFor, ArePoints, Grows, HasMoves, IsBare, IsLabelStep, IsTextStep, KeepMoves, KeepsPoints, LabelsStand, RowView, TextsStand, is_old, no_row, point_at, row_at, state_at}
+use Rattle.xd_points.proofs.GrowsLemmas.{grows_trans, keeps, label_stays, text_stays}
+use Rattle.xd_points.proofs.StandForMovesLemmas.{stand_more, zip_all}
 
 -- the points with another automaton
 abbrev pub with_made : Points → Automaton → Points
 with_made p made = record { made = made; points = p.points; found = p.found }
 
 module _ (a : Automaton) (b : PatternStates) where
-  labels_stay : (s : State) (p q : Points) → KeepsPoints p q → (ms : List LabelMove) (ns : List ℕ) → AllZip (IsLabelStep b.auto s p) ms ns → (n : ℕ) (w : ElementFirst) → any_for (label_means a b q w) n ms ns ≡ any_for (label_means a b p w) n ms ns
-  labels_stay s = steps_stay (IsLabelStep b.auto s) (label_means a b) a b (label_step_stays a b s) (label_step_more b.auto s)
-
-  texts_stay : (s : State) (p q : Points) → KeepsPoints p q → (ms : List TextMove) (ns : List ℕ) → AllZip (IsTextStep b.auto s p) ms ns → (n : ℕ) (w : TextFirst) → any_for (text_means a b q w) n ms ns ≡ any_for (text_means a b p w) n ms ns
-  texts_stay s = steps_stay (IsTextStep b.auto s) (text_means a b) a b (text_step_stays a b s) (text_step_more b.auto s)
-
   -- a state that has its moves keeps them
   pub has_more : (first : Bool) (p q : Points) (i : ℕ) (row : RowView) → KeepsPoints p q → moves_at q.made (state_at i) ≡ moves_at p.made (state_at i) → i < length p.points.items → HasMoves first a b p i row → HasMoves first a b q i row
   has_more first p q i row stay same lt h =
-      let s = (point_at p.points.items i).pattern in
-      let s_is : s ≡ (point_at q.points.items i).pattern = ap (λ (w : PointView). w.pattern) (sym (stay.points i lt)) in
-      let steps : AllZip (IsLabelStep b.auto s q) (moves_at p.made (state_at i)).labels row.labels = zip_map (IsLabelStep b.auto s p) (IsLabelStep b.auto s q) (moves_at p.made (state_at i)).labels row.labels (label_step_more b.auto s p q stay) h.label_steps in
-      let text_steps : AllZip (IsTextStep b.auto s q) (moves_at p.made (state_at i)).texts row.texts = zip_map (IsTextStep b.auto s p) (IsTextStep b.auto s q) (moves_at p.made (state_at i)).texts row.texts (text_step_more b.auto s p q stay) h.text_steps in
-      record {
-        labels = λ n w.
-            ap (λ (m : StateMoves). any_for (label_means a b q w) n m.labels row.labels) same
-            ∙ labels_stay s p q stay (moves_at p.made (state_at i)).labels row.labels h.label_steps n w
-            ∙ h.labels n w ∙ ap (λ (v : PointView). label_takes first a b v n w) (sym (stay.points i lt));
-        texts = λ n w.
-            ap (λ (m : StateMoves). any_for (text_means a b q w) n m.texts row.texts) same
-            ∙ texts_stay s p q stay (moves_at p.made (state_at i)).texts row.texts h.text_steps n w
-            ∙ h.texts n w ∙ ap (λ (v : PointView). text_takes_by first a b v n w) (sym (stay.points i lt));
-        label_steps = subst (λ (t : State). AllZip (IsLabelStep b.auto t q) (moves_at q.made (state_at i)).labels row.labels) s_is
-            (subst (λ (m : StateMoves). AllZip (IsLabelStep b.auto s q) m.labels row.labels) (sym same) steps);
-        text_steps = subst (λ (t : State). AllZip (IsTextStep b.auto t q) (moves_at q.made (state_at i)).texts row.texts) s_is
-            (subst (λ (m : StateMoves). AllZip (IsTextStep b.auto s q) m.texts row.texts) (sym same) text_steps);
-      }
+      let of = point_at p.points.items i in
+      subst (λ (v : PointView). AreMovesFor first a b q v (moves_at q.made (state_at i)) row) (sym (stay.points i lt))
+      (subst (λ (ms : StateMoves). AreMovesFor first a b q of ms row) (sym same)
+      (record { labels = stand_more (label_stays a b) stay h.labels; texts = stand_more (text_stays a b) stay h.texts }))
 
   -- the new moves lead to the states of points
   pub labels_lead : (s : State) (p q : Points) (ms : List LabelMove) (ns : List ℕ) → AllZip (IsLabelStep b.auto s p) ms ns → KeepsPoints p q → ArePoints a b q → All (λ m. (m.content.number < length q.made) × (m.rest.number < length q.made)) ms
   labels_lead s p q ms ns h stay whole =
       zip_all (IsLabelStep b.auto s p) (λ m. (m.content.number < length q.made) × (m.rest.number < length q.made)) ms ns
-      (λ m n step. (omega (arith, step.leads.content.within, stay.longer, whole.count), omega (arith, step.leads.rest.within, stay.longer, whole.count))) h
+      (λ m n step. (omega (arith, step.leads.0.within, stay.longer, whole.count), omega (arith, step.leads.1.0.within, stay.longer, whole.count))) h
 
   pub texts_lead : (s : State) (p q : Points) (ms : List TextMove) (ns : List ℕ) → AllZip (IsTextStep b.auto s p) ms ns → KeepsPoints p q → ArePoints a b q → All (λ m. m.rest.number < length q.made) ms
   texts_lead s p q ms ns h stay whole =
-      zip_all (IsTextStep b.auto s p) (λ m. m.rest.number < length q.made) ms ns (λ m n step. omega (arith, step.leads.leads.within, stay.longer, whole.count)) h
+      zip_all (IsTextStep b.auto s p) (λ m. m.rest.number < length q.made) ms ns (λ m n step. omega (arith, step.leads.0.within, stay.longer, whole.count)) h
 
 module _ (first : Bool) (a : Automaton) (b : PatternStates) (old mid new : Points) (made : Automaton) (rows : List RowView) (row : RowView) (of : PointView) (labels : List LabelMove) (texts : List TextMove)
     (expanded : AreExpanded first a b old rows) (within : length rows < length old.points.items)
     (of_is : point_at old.points.items (length rows) ≡ of)
-    (makes : MakesLabels of.pattern a b old mid labels row.labels (label_takes first a b of)) (makes_texts : MakesTexts of.pattern a b mid new texts row.texts (text_takes_by first a b of))
+    (grows_one : Grows old mid) (grows_two : Grows mid new) (points : ArePoints a b new)
+    (labels_stand : LabelsStand first a b mid of labels row.labels) (texts_stand : TextsStand first a b new of texts row.texts)
     (is : moves_at made (state_at (length rows)) ≡ record (moves_at new.made (state_at (length rows))) { labels = labels; texts = texts })
     (changes : ChangesOnly (state_at (length rows)) new.made made) where
   grows : Grows old new
-  grows = grows_trans old mid new makes.grows makes_texts.grows
+  grows = grows_trans old mid new grows_one grows_two
 
   pub stay : KeepsPoints old (with_made new made)
   stay = record { longer = grows.longer; points = grows.points }
 
   stay_mid : KeepsPoints mid (with_made new made)
-  stay_mid = record { longer = makes_texts.grows.longer; points = makes_texts.grows.points }
+  stay_mid = record { longer = grows_two.longer; points = grows_two.points }
 
   stay_new : KeepsPoints new (with_made new made)
   stay_new = record { longer = omega arith; points = λ i lt. refl }
@@ -84,10 +64,10 @@ module _ (first : Bool) (a : Automaton) (b : PatternStates) (old mid new : Point
 
   whole : ArePoints a b (with_made new made)
   whole = record {
-    count = changes.states ∙ makes_texts.whole.count;
-    points = makes_texts.whole.points;
-    last = λ i lt. last_stays i ∙ makes_texts.whole.last i lt;
-    only = makes_texts.whole.only;
+    count = changes.states ∙ points.count;
+    points = points.points;
+    last = λ i lt. last_stays i ∙ points.last i lt;
+    only = points.only;
   }
 
   -- each other state has the moves that it had
@@ -99,26 +79,11 @@ module _ (first : Bool) (a : Automaton) (b : PatternStates) (old mid new : Point
 
   here : HasMoves first a b (with_made new made) (length rows) row
   here =
-      let left = of.pattern in
-      let here_pattern : (point_at new.points.items (length rows)).pattern ≡ left = ap (λ (w : PointView). w.pattern) here_is in
-      let steps : AllZip (IsLabelStep b.auto left (with_made new made)) labels row.labels =
-      zip_map (IsLabelStep b.auto left mid) (IsLabelStep b.auto left (with_made new made)) labels row.labels (label_step_more b.auto left mid (with_made new made) stay_mid) makes.steps in
-      let text_steps : AllZip (IsTextStep b.auto left (with_made new made)) texts row.texts =
-      zip_map (IsTextStep b.auto left new) (IsTextStep b.auto left (with_made new made)) texts row.texts (text_step_more b.auto left new (with_made new made) stay_new) makes_texts.steps in
-      record {
-        labels = λ n q.
-            ap (λ (m : StateMoves). any_for (label_means a b (with_made new made) q) n m.labels row.labels) is
-            ∙ labels_stay a b left mid (with_made new made) stay_mid labels row.labels makes.steps n q ∙ makes.taken n q
-            ∙ ap (λ (v : PointView). label_takes first a b v n q) (sym here_is);
-        texts = λ n q.
-            ap (λ (m : StateMoves). any_for (text_means a b (with_made new made) q) n m.texts row.texts) is
-            ∙ texts_stay a b left new (with_made new made) stay_new texts row.texts makes_texts.steps n q ∙ makes_texts.taken n q
-            ∙ ap (λ (v : PointView). text_takes_by first a b v n q) (sym here_is);
-        label_steps = subst (λ (t : State). AllZip (IsLabelStep b.auto t (with_made new made)) (moves_at made (state_at (length rows))).labels row.labels) (sym here_pattern)
-            (subst (λ (m : StateMoves). AllZip (IsLabelStep b.auto left (with_made new made)) m.labels row.labels) (sym is) steps);
-        text_steps = subst (λ (t : State). AllZip (IsTextStep b.auto t (with_made new made)) (moves_at made (state_at (length rows))).texts row.texts) (sym here_pattern)
-            (subst (λ (m : StateMoves). AllZip (IsTextStep b.auto left (with_made new made)) m.texts row.texts) (sym is) text_steps);
-      }
+      subst (λ (v : PointView). AreMovesFor first a b (with_made new made) v (moves_at made (state_at (length rows))) row) (sym here_is)
+      (subst (λ (ms : StateMoves). AreMovesFor first a b (with_made new made) of ms row) (sym is) (record {
+        labels = stand_more (label_stays a b) stay_mid labels_stand;
+        texts = stand_more (text_stays a b) stay_new texts_stand;
+      }))
 
   count : length (rows ++ row ∷ []) ≡ length rows + 1
   count = length-append rows (row ∷ [])

@@ -6,7 +6,7 @@ mod GrowsLemmas
 mod PlaceLemmas
 pub mod MeaningLaw
 pub mod StayLaws
-mod MakesMovesLemmas
+mod StandForMovesLemmas
 pub mod TableLemmas
 mod PatternMoveLemmas
 pub mod FirstRunLaw

@@ -23,7 +23,7 @@ use Rattle.xd_empty.specs.Parts.{is_marked}
 use Rattle.xd_points.specs.Placing.{IsPlaceOf, IsPlaced, accepts_at, passes_there, passes_to, place_at, state_of, text_passes_there, text_passes_to}
 use Rattle.xd_boole.specs.Points.{MoveBelow, TextBelow}
 use Rattle.xd_points.specs.Points.{AllExpanded, HasMoves, IsLabelStep, IsTextStep, is_old, label_means, meaning, point_at, row_at, state_at, text_means}
-use Rattle.xd_points.proofs.MakesMovesLemmas.{together}
+use Rattle.xd_points.proofs.StandForMovesLemmas.{together}
 use Rattle.xd_boole.proofs.Bools.{and_both, and_false, and_left, and_right, or_true}
 use Rattle.xd_boole.proofs.GrowsLemmas.{any_agree}
 use Rattle.xd_boole.proofs.MoveBelowLemmas.{labels_below, texts_below}
@@ -95,14 +95,14 @@ module _ (a : Automaton) (b : PatternStates) (p : Points) (all : AllExpanded a b
       let v = point_at p.points.items i in
       let h = has i lt yet in
       together (IsLabelStep b.auto v.pattern p) (label_means a b p q) (moves_at p.made (state_at i)).labels (row_at all.rows i).labels (move_takes b.auto q) (moves_at b.auto v.pattern).labels all.first
-      (accepts a (element_of q) v.left) (any_accepts b.taken.auto v.rights (element_of q)) h.label_steps (λ n. h.labels n q)
+      (accepts a (element_of q) v.left) (any_accepts b.taken.auto v.rights (element_of q)) h.labels.steps (λ n. h.labels.taken n q)
 
   texts_all : (i : ℕ) → i < length p.points.items → is_old b p i ≡ false → (q : TextFirst) → list_any (text_means a b p q) (moves_at p.made (state_at i)).texts ≡ meaning a b p i (text_of q)
   texts_all i lt yet q =
       let v = point_at p.points.items i in
       let h = has i lt yet in
       together (IsTextStep b.auto v.pattern p) (text_means a b p q) (moves_at p.made (state_at i)).texts (row_at all.rows i).texts (text_takes b.auto q) (moves_at b.auto v.pattern).texts all.first
-      (accepts a (text_of q) v.left) (any_accepts b.taken.auto v.rights (text_of q)) h.text_steps (λ n. h.texts n q)
+      (accepts a (text_of q) v.left) (any_accepts b.taken.auto v.rights (text_of q)) h.texts.steps (λ n. h.texts.taken n q)
 
   old_accepts : (i : ℕ) → i < length p.points.items → is_old b p i ≡ true → Accepted p.made (state_at i)
   old_accepts i lt e = record { document = empty; accepted = all.are.whole.last i lt ∙ ap (λ w. w || meaning a b p i empty) e }

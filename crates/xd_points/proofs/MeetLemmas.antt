@@ -21,8 +21,8 @@ use Rattle.xd_points.specs.declared.points.Points.{Points}
 use Rattle.xd_boole.proofs.AnyAcceptsLemmas.{has_refuses}
 use Rattle.xd_points.specs.Meaning.{PointView, ServePoints, means, point}
 use Rattle.xd_points.specs.Narrowing.{leaves_nothing}
-use Rattle.xd_points.specs.Points.{AddsLabels, AddsTexts, ArePoints, Grows, LabelLeads, StandsFor, TextLeads, label_means, meaning, parts_accept, rests_accept, text_means}
-use Rattle.xd_points.proofs.GrowsLemmas.{adds_push, grows_trans, keeps, keeps_same, label_stays, labels_more, leads_here, state_means, text_stays, texts_more}
+use Rattle.xd_points.specs.Points.{AddsLabels, AddsTexts, ArePoints, Grows, LabelLeads, StandsFor, TextLeads, label_means, label_states, meaning, parts_accept, rests_accept, text_means, text_states}
+use Rattle.xd_points.proofs.GrowsLemmas.{adds_push, grows_trans, keeps, keeps_same, label_stays, leads_here, state_means, text_stays}
 
 chosen : (h lc lr pc pr u v : Bool) → (h && ((lc && (pc && not u)) && (lr && (pr && not v)))) ≡ (h && (((lc && lr) && (pc && pr)) && (not u && not v)))
 chosen false lc lr pc pr u v = refl
@@ -42,8 +42,8 @@ pub move_added : (a : Automaton) (b : PatternStates) (p q r : Points) (ms after 
 move_added a b p q r ms after parts choice class content rest is below one two whole first second =
     let inside = point parts.left.content parts.pattern.content choice.contents.items in
     let behind = point parts.left.rest parts.pattern.rest choice.rests.items in
-    adds_push (LabelLeads parts.pattern) (label_means a b) a b (label_stays a b parts.pattern) (labels_more parts.pattern) p r ms after (record { class = class; content = content; rest = rest }) _ is below (grows_trans p q r one two) whole
-    (record { content = leads_here a b q r inside content first (keeps q r two); rest = leads_here a b r r behind rest second (keeps_same r) })
+    adds_push (parts.pattern.content ∷ parts.pattern.rest ∷ []) label_states (label_means a b) a b (label_stays a b) p r ms after (record { class = class; content = content; rest = rest }) _ is below (grows_trans p q r one two) whole
+    (leads_here a b q r inside content first (keeps q r two), (leads_here a b r r behind rest second (keeps_same r), tt))
     (λ w.
     ap (λ v. class_has class w.label && (v && meaning a b r rest.number w.rest)) (state_means a b q r inside content first (keeps q r two) w.content)
     ∙ ap (λ v. class_has class w.label && (means a b inside w.content && v)) (state_means a b r r behind rest second (keeps_same r) w.rest)
@@ -56,7 +56,7 @@ pub text_added : (a : Automaton) (b : PatternStates) (p r : Points) (ms after : 
     → ((w : TextFirst) → any_accepts b.taken.auto rights w.rest ≡ any_accepts b.taken.auto group.sides.items w.rest)
     → AddsTexts rests.pattern a b p r ms after (λ w. rests_accept a b w.rest rests && group_refuses class_has (λ s. accepts b.taken.auto w.rest s) w.characters group)
 text_added a b p r ms after rests rest group rights is below grows whole state same =
-    adds_push (TextLeads rests.pattern) (text_means a b) a b (text_stays a b rests.pattern) (texts_more rests.pattern) p r ms after (record { words = group.class; rest = rest }) _ is below grows whole (record { leads = leads_here a b r r (point rests.left rests.pattern rights) rest state (keeps_same r) })
+    adds_push (rests.pattern ∷ []) text_states (text_means a b) a b (text_stays a b) p r ms after (record { words = group.class; rest = rest }) _ is below grows whole (leads_here a b r r (point rests.left rests.pattern rights) rest state (keeps_same r), tt)
     (λ w.
     ap (λ v. class_has group.class w.characters && v)
     (state_means a b r r (point rests.left rests.pattern rights) rest state (keeps_same r) w.rest ∙ ap (λ v. accepts a w.rest rests.left && (accepts b.auto w.rest rests.pattern && not v)) (same w)

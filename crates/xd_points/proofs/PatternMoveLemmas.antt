@@ -1,5 +1,5 @@
 -- Moves of states with like ones made one tell what those of the states as they are do.
-use Rattle.std.proofs.Common.{◌≡◌, ℕ, zero, suc, ◌<◌, Bool, true, false, not, ◌&&◌, ◌||◌, List, [], ◌∷◌, map, length, take, get_or, Some, refl, sym, ap, ◌∙◌, arith}
+use Rattle.std.proofs.Common.{◌≡◌, ℕ, zero, suc, ◌<◌, Bool, true, false, not, ◌&&◌, ◌||◌, List, [], ◌∷◌, map, length, take, get_or, Some, refl, sym, ap, subst, ◌∙◌, arith}
 use Rattle.std.specs.List.{list_any, slice_get}
 use Rattle.xd_auto.specs.declared.auto.State.{State}
 use Rattle.xd_auto.specs.Automaton.{Automaton, moves_at}
@@ -9,7 +9,6 @@ use Rattle.xd_points.specs.declared.patterns.PatternStates.{PatternStates}
 use Rattle.xd_boole.specs.Groups.{passes_at}
 use Rattle.xd_boole.specs.Meaning.{ElementFirst, TextFirst, move_takes, text_takes}
 use Rattle.xd_boole.proofs.MatchLemmas.{matching_tells}
-use Rattle.xd_points.specs.Points.{any_before, any_text_before}
 
 any_take : {X Y : Type 0} (f : X → Bool) (g : Y → Bool) (xs : List X) (ys : List Y) (n : ℕ) → map f xs ≡ map g ys → list_any f (take n xs) ≡ list_any g (take n ys)
 any_take f g xs ys zero e = refl
@@ -22,10 +21,10 @@ any_take f g (x ∷ xs) (y ∷ ys) (suc n) e =
     ap (λ w. w || list_any f (take n xs)) first ∙ ap (λ w. g y || w) (any_take f g xs ys n others)
 
 module _ (a : Automaton) (b : PatternStates) (is : ServePoints a b) (s : State) (n : ℕ) where
-  pub before_same : (q : ElementFirst) → list_any (move_takes b.taken.auto q) (take n (moves_at b.taken.auto s).labels) ≡ any_before b.auto s n q
+  pub before_same : (q : ElementFirst) → list_any (move_takes b.taken.auto q) (take n (moves_at b.taken.auto s).labels) ≡ list_any (move_takes b.auto q) (take n (moves_at b.auto s).labels)
   before_same q = any_take (move_takes b.taken.auto q) (move_takes b.auto q) (moves_at b.taken.auto s).labels (moves_at b.auto s).labels n (is.moves.labels q s)
 
-  pub text_before_same : (q : TextFirst) → list_any (text_takes b.taken.auto q) (take n (moves_at b.taken.auto s).texts) ≡ any_text_before b.auto s n q
+  pub text_before_same : (q : TextFirst) → list_any (text_takes b.taken.auto q) (take n (moves_at b.taken.auto s).texts) ≡ list_any (text_takes b.auto q) (take n (moves_at b.auto s).texts)
   text_before_same q = any_take (text_takes b.taken.auto q) (text_takes b.auto q) (moves_at b.taken.auto s).texts (moves_at b.auto s).texts n (is.moves.texts q s)
 
 -- what stands at one place is one
@@ -52,9 +51,12 @@ passes_item t (y ∷ xs) (suc k) x lt at = passes_item t xs k x (omega arith) at
 
 -- a move of a pattern's state, and the moves of the left that may share a name with it: these tell
 -- what all moves of the left do
-pub met_tell : {M : Type 0} (has : M → List ℕ → Bool) (t : M → Bool) (step : M) (moves : List M) (numbers : List ℕ) (x : List ℕ) (k r : Bool) → AreMatching has step moves numbers
-    → (list_any (passes_at (λ m. has m x && t m) moves) numbers && ((has step x && k) && not r)) ≡ (list_any (λ m. has m x && t m) moves && ((has step x && k) && not r))
-met_tell {M} has t step moves numbers x k r are = go (has step x) refl
+pub met_tell : {M : Type 0} (has : M → List ℕ → Bool) (x : List ℕ) (t takes : M → Bool) (step : M) (moves : List M) (numbers : List ℕ) (k taken r : Bool)
+    → takes ≡ (λ m. has m x && t m) → taken ≡ (has step x && k) → AreMatching has step moves numbers
+    → (list_any (passes_at takes moves) numbers && (taken && not r)) ≡ (list_any takes moves && (taken && not r))
+met_tell {M} has x t takes step moves numbers k taken r takes_is taken_is are =
+    subst (λ (f : M → Bool). (list_any (passes_at f moves) numbers && (taken && not r)) ≡ (list_any f moves && (taken && not r))) (sym takes_is)
+    (subst (λ (w : Bool). (some && (w && not r)) ≡ (all && (w && not r))) (sym taken_is) (go (has step x) refl))
   where
     some : Bool
     some = list_any (passes_at (λ m. has m x && t m) moves) numbers

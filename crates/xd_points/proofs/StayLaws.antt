@@ -2,7 +2,6 @@
 use Rattle.std.proofs.Common.{◌≡◌, ℕ, ◌<◌, Bool, ◌&&◌, ◌||◌, not, List, length, sym, ap, ◌∙◌, arith}
 use Rattle.xd_doc.specs.Classes.{class_has}
 use Rattle.xd_doc.specs.Document.{Document, empty}
-use Rattle.xd_auto.specs.declared.auto.State.{State}
 use Rattle.xd_auto.specs.declared.auto.LabelMove.{LabelMove}
 use Rattle.xd_auto.specs.declared.auto.TextMove.{TextMove}
 use Rattle.xd_auto.specs.Automaton.{Automaton, Extends, IsClosed, accepts, moves_at}
@@ -13,9 +12,9 @@ use Rattle.xd_points.specs.declared.patterns.PatternStates.{PatternStates}
 use Rattle.xd_points.specs.declared.points.Points.{Points}
 use Rattle.xd_points.specs.Laws.{ExpandedStays, MeaningsStay, ServingStays}
 use Rattle.xd_points.specs.FirstRuns.{place_before}
-use Rattle.xd_points.specs.Points.{AreExpanded, HasMoves, IsLabelStep, IsTextStep, RowView, any_before, any_text_before, is_old, label_means, label_takes, meaning, point_at, row_at, state_at, text_means, text_takes_by}
+use Rattle.xd_points.specs.Points.{AreExpanded, HasMoves, LeadsAs, RowView, is_old, label_means, label_states, meaning, point_at, row_at, taken_before, takes_for, text_means, text_states}
 use Rattle.xd_points.proofs.PlaceLemmas.{extends_longer}
-use Rattle.xd_points.proofs.MakesMovesLemmas.{for_agree}
+use Rattle.xd_points.proofs.StandForMovesLemmas.{stand_other}
 
 pub serving_stays : ServingStays
 serving_stays a n t closed extends is = record {
@@ -37,32 +36,27 @@ module _ (a n : Automaton) (t : PatternStates) (closed : IsClosed a) (extends : 
   left_same : (i : ℕ) → i < length p.points.items → (d : Document) → accepts a d (point_at p.points.items i).left ≡ accepts n d (point_at p.points.items i).left
   left_same i lt d = sym (keeps a n closed extends d (point_at p.points.items i).left (expanded.whole.points i lt).left)
 
-  takes_same : (i : ℕ) → i < length p.points.items → (k : ℕ) (q : ElementFirst) → label_takes first a t (point_at p.points.items i) k q ≡ label_takes first n t (point_at p.points.items i) k q
-  takes_same i lt k q =
+  takes_same : {M : Type 0} (i : ℕ) → i < length p.points.items → (f : M → Bool) (moves : List M) (k : ℕ) (d : Document) → takes_for f moves first a t (point_at p.points.items i) k d ≡ takes_for f moves first n t (point_at p.points.items i) k d
+  takes_same i lt f moves k d =
       let v = point_at p.points.items i in
-      ap (λ w. w && (passes_at (move_takes t.auto q) (moves_at t.auto v.pattern).labels k && not (any_accepts t.taken.auto v.rights (element_of q) || any_before t.auto v.pattern (place_before first k) q))) (left_same i lt (element_of q))
+      ap (λ w. w && (passes_at f moves k && not (taken_before f moves t v (place_before first k) d))) (left_same i lt d)
 
-  texts_take_same : (i : ℕ) → i < length p.points.items → (k : ℕ) (q : TextFirst) → text_takes_by first a t (point_at p.points.items i) k q ≡ text_takes_by first n t (point_at p.points.items i) k q
-  texts_take_same i lt k q =
-      let v = point_at p.points.items i in
-      ap (λ w. w && (passes_at (text_takes t.auto q) (moves_at t.auto v.pattern).texts k && not (any_accepts t.taken.auto v.rights (text_of q) || any_text_before t.auto v.pattern (place_before first k) q))) (left_same i lt (text_of q))
+  label_same : (q : ElementFirst) (origin m : LabelMove) → LeadsAs label_states origin p m → label_means n t p q m ≡ label_means a t p q m
+  label_same q origin m leads =
+      ap (λ w. class_has m.class q.label && (w && meaning n t p m.rest.number q.rest)) (sym (same_meaning m.content.number leads.0.within q.content))
+      ∙ ap (λ w. class_has m.class q.label && (meaning a t p m.content.number q.content && w)) (sym (same_meaning m.rest.number leads.1.0.within q.rest))
 
-  label_same : (s : State) (q : ElementFirst) (m : LabelMove) (k : ℕ) → IsLabelStep t.auto s p m k → label_means n t p q m ≡ label_means a t p q m
-  label_same s q m k h =
-      ap (λ w. class_has m.class q.label && (w && meaning n t p m.rest.number q.rest)) (sym (same_meaning m.content.number h.leads.content.within q.content))
-      ∙ ap (λ w. class_has m.class q.label && (meaning a t p m.content.number q.content && w)) (sym (same_meaning m.rest.number h.leads.rest.within q.rest))
-
-  text_same : (s : State) (q : TextFirst) (m : TextMove) (k : ℕ) → IsTextStep t.auto s p m k → text_means n t p q m ≡ text_means a t p q m
-  text_same s q m k h = ap (λ w. class_has m.words q.characters && w) (sym (same_meaning m.rest.number h.leads.leads.within q.rest))
+  text_same : (q : TextFirst) (origin m : TextMove) → LeadsAs text_states origin p m → text_means n t p q m ≡ text_means a t p q m
+  text_same q origin m leads = ap (λ w. class_has m.words q.characters && w) (sym (same_meaning m.rest.number leads.0.within q.rest))
 
   has_there : (i : ℕ) → i < length p.points.items → HasMoves first a t p i (row_at rows i) → HasMoves first n t p i (row_at rows i)
   has_there i lt h =
-      let s = (point_at p.points.items i).pattern in
+      let v = point_at p.points.items i in
+      let labels = (moves_at t.auto v.pattern).labels in
+      let texts = (moves_at t.auto v.pattern).texts in
       record {
-        labels = λ k q. for_agree (IsLabelStep t.auto s p) (label_means n t p q) (label_means a t p q) k (moves_at p.made (state_at i)).labels (row_at rows i).labels h.label_steps (label_same s q) ∙ h.labels k q ∙ takes_same i lt k q;
-        texts = λ k q. for_agree (IsTextStep t.auto s p) (text_means n t p q) (text_means a t p q) k (moves_at p.made (state_at i)).texts (row_at rows i).texts h.text_steps (text_same s q) ∙ h.texts k q ∙ texts_take_same i lt k q;
-        label_steps = h.label_steps;
-        text_steps = h.text_steps;
+        labels = stand_other label_same h.labels (λ k q. takes_same i lt (move_takes t.auto q) labels k (element_of q));
+        texts = stand_other text_same h.texts (λ k q. takes_same i lt (text_takes t.auto q) texts k (text_of q));
       }
 
   expanded_there : AreExpanded first n t p rows

@@ -14,7 +14,7 @@ use Rattle.xd_boole.specs.declared.groups.MoveSide.{MoveSide}
 use Rattle.xd_points.specs.declared.patterns.PatternStates.{PatternStates}
 use Rattle.xd_boole.specs.Meaning.{ElementFirst, TextFirst, any_accepts, element_of, text_of, move_takes, text_takes}
 use Rattle.xd_points.specs.Meaning.{IsPointOf, PointView, point, is_old_point, means}
-use Rattle.xd_boole.specs.Groups.{is_side, label_side, passes_at, side_accepts}
+use Rattle.xd_boole.specs.Groups.{is_side, passes_at, side_accepts}
 use Rattle.xd_boole.specs.Refusals.{LeadInside}
 use Rattle.xd_points.specs.FirstRuns.{place_before}
 use Rattle.xd_points.specs.declared.points.Points.{Points}
@@ -84,13 +84,22 @@ pub record StandsFor (a : Automaton) (b : PatternStates) (p : Points) (of : Poin
   pub leads : LeadsTo p of.pattern s
   pub means : (d : Document) → meaning a b p s.number d ≡ means a b of d
 
--- where new moves lead
-pub record LabelLeads (part : MoveSide) (p : Points) (m : LabelMove) : Type 0 where
-  pub content : LeadsTo p part.content m.content
-  pub rest : LeadsTo p part.rest m.rest
+-- the states that a move leads to
+abbrev pub label_states : LabelMove → List State
+label_states m = m.content ∷ m.rest ∷ []
 
-pub record TextLeads (rest : State) (p : Points) (m : TextMove) : Type 0 where
-  pub leads : LeadsTo p rest m.rest
+abbrev pub text_states : TextMove → List State
+text_states m = m.rest ∷ []
+
+-- where new moves lead: one after the other their states stand for these of the pattern
+abbrev pub LabelLeads : MoveSide → Points → LabelMove → Type 0
+LabelLeads part p m = AllZip (LeadsTo p) (part.content ∷ part.rest ∷ []) (label_states m)
+
+abbrev pub TextLeads : State → Points → TextMove → Type 0
+TextLeads rest p m = AllZip (LeadsTo p) (rest ∷ []) (text_states m)
+
+abbrev pub LeadsAs : {M : Type 0} → (M → List State) → M → Points → M → Type 0
+LeadsAs states origin p m = AllZip (LeadsTo p) (states origin) (states m)
 
 -- where two moves lead, one of a left and one of a pattern's state: states of the automaton, and of
 -- the patterns
@@ -128,30 +137,29 @@ AddsLabels part a b = AddsMoves (LabelLeads part) (label_means a b) a b
 abbrev pub AddsTexts : State → Automaton → PatternStates → Points → Points → List TextMove → List TextMove → (TextFirst → Bool) → Type 0
 AddsTexts rest a b = AddsMoves (TextLeads rest) (text_means a b) a b
 
--- some move of the state before the one of this number takes the element, or the text
-abbrev pub any_before : Automaton → State → ℕ → ElementFirst → Bool
-any_before a s n q = list_any (move_takes a q) (take n (moves_at a s).labels)
-
-abbrev pub any_text_before : Automaton → State → ℕ → TextFirst → Bool
-any_text_before a s n q = list_any (text_takes a q) (take n (moves_at a s).texts)
+-- a right of the point accepts the document, or one of these moves before this number passes the
+-- test
+abbrev pub taken_before : {M : Type 0} → (M → Bool) → List M → PatternStates → PointView → ℕ → Document → Bool
+taken_before t moves b p n d = any_accepts b.taken.auto p.rights d || list_any t (take n moves)
 
 -- moves that on the labels of a class take, of what the parts accept, what the rights of the point
 -- do, and the moves of its pattern's state before one
 pub record AreRefusing (a : Automaton) (b : PatternStates) (p : PointView) (class : LabelClass) (parts : Parts) (place : ℕ) (moves : List LabelMove) : Type 0 where
   pub taken : (q : ElementFirst) → class_has class q.label ≡ true → parts_accept a b q.content q.rest parts ≡ true
-      → list_any (move_takes b.taken.auto q) moves ≡ (any_accepts b.taken.auto p.rights (element_of q) || any_before b.auto p.pattern place q)
+      → list_any (move_takes b.taken.auto q) moves ≡ taken_before (move_takes b.auto q) (moves_at b.auto p.pattern).labels b p place (element_of q)
   pub inside : LeadInside b.taken.auto moves
 
--- the move leads where the one of this number of the pattern's state does
-pub record IsLabelStep (a : Automaton) (s : State) (p : Points) (m : LabelMove) (n : ℕ) : Type 0 where
-  pub origin : LabelMove
-  pub there : slice_get (moves_at a s).labels n ≡ Some origin
-  pub leads : LabelLeads (label_side origin) p m
+-- the move leads where the one of this number among the pattern's does
+pub record IsStepOf {M : Type 0} (states : M → List State) (origins : List M) (p : Points) (m : M) (n : ℕ) : Type 0 where
+  pub origin : M
+  pub there : slice_get origins n ≡ Some origin
+  pub leads : LeadsAs states origin p m
 
-pub record IsTextStep (a : Automaton) (s : State) (p : Points) (m : TextMove) (n : ℕ) : Type 0 where
-  pub origin : TextMove
-  pub there : slice_get (moves_at a s).texts n ≡ Some origin
-  pub leads : TextLeads origin.rest p m
+abbrev pub IsLabelStep : Automaton → State → Points → LabelMove → ℕ → Type 0
+IsLabelStep a s = IsStepOf label_states (moves_at a s).labels
+
+abbrev pub IsTextStep : Automaton → State → Points → TextMove → ℕ → Type 0
+IsTextStep a s = IsStepOf text_states (moves_at a s).texts
 
 -- some of the moves that have this number passes the test
 abbrev pub any_for : {M : Type 0} → (M → Bool) → ℕ → List M → List ℕ → Bool
@@ -160,27 +168,14 @@ any_for p n (m ∷ ms) [] = false
 any_for p n (m ∷ ms) (k ∷ ks) = (nat_eq k n && p m) || any_for p n ms ks
 
 -- what is to be taken by the move of this number of the pattern's state
-abbrev pub label_takes : Bool → Automaton → PatternStates → PointView → ℕ → ElementFirst → Bool
-label_takes first a b p n q = accepts a (element_of q) p.left
-    && (passes_at (move_takes b.auto q) (moves_at b.auto p.pattern).labels n && not (any_accepts b.taken.auto p.rights (element_of q) || any_before b.auto p.pattern (place_before first n) q))
+abbrev pub takes_for : {M : Type 0} → (M → Bool) → List M → Bool → Automaton → PatternStates → PointView → ℕ → Document → Bool
+takes_for t moves first a b p n d = accepts a d p.left && (passes_at t moves n && not (taken_before t moves b p (place_before first n) d))
 
-abbrev pub text_takes_by : Bool → Automaton → PatternStates → PointView → ℕ → TextFirst → Bool
-text_takes_by first a b p n q = accepts a (text_of q) p.left
-    && (passes_at (text_takes b.auto q) (moves_at b.auto p.pattern).texts n && not (any_accepts b.taken.auto p.rights (text_of q) || any_text_before b.auto p.pattern (place_before first n) q))
-
--- points were found, and the moves of a state made, with the numbers of the moves that they stand
--- for; of each number they take what `takes` says
-pub record MakesMoves {M Q : Type 0} (IsStep : Points → M → ℕ → Type 0) (by_move : Points → Q → M → Bool) (a : Automaton) (b : PatternStates) (old new : Points) (moves : List M) (numbers : List ℕ) (takes : ℕ → Q → Bool) : Type 0 where
-  pub whole : ArePoints a b new
-  pub grows : Grows old new
-  pub steps : AllZip (IsStep new) moves numbers
-  pub taken : (n : ℕ) (q : Q) → any_for (by_move new q) n moves numbers ≡ takes n q
-
-abbrev pub MakesLabels : State → Automaton → PatternStates → Points → Points → List LabelMove → List ℕ → (ℕ → ElementFirst → Bool) → Type 0
-MakesLabels s a b = MakesMoves (IsLabelStep b.auto s) (label_means a b) a b
-
-abbrev pub MakesTexts : State → Automaton → PatternStates → Points → Points → List TextMove → List ℕ → (ℕ → TextFirst → Bool) → Type 0
-MakesTexts s a b = MakesMoves (IsTextStep b.auto s) (text_means a b) a b
+-- moves with the numbers of the moves that they stand for; those of each number take what `takes`
+-- says
+pub record StandForMoves {M Q : Type 0} (states : M → List State) (by_move : Points → Q → M → Bool) (origins : List M) (p : Points) (moves : List M) (numbers : List ℕ) (takes : ℕ → Q → Bool) : Type 0 where
+  pub steps : AllZip (IsStepOf states origins p) moves numbers
+  pub taken : (n : ℕ) (q : Q) → any_for (by_move p q) n moves numbers ≡ takes n q
 
 -- the numbers of the moves that a state's moves stand for
 pub record RowView : Type 0 where
@@ -193,13 +188,22 @@ no_row = record { labels = []; texts = [] }
 abbrev pub row_at : List RowView → ℕ → RowView
 row_at rows i = slice_index_or rows i no_row
 
--- the state of this number has its moves: for each move of the pattern's state those that take,
--- with it, what the point means
-pub record HasMoves (first : Bool) (a : Automaton) (b : PatternStates) (p : Points) (i : ℕ) (row : RowView) : Type 0 where
-  pub labels : (n : ℕ) (q : ElementFirst) → any_for (label_means a b p q) n (moves_at p.made (state_at i)).labels row.labels ≡ label_takes first a b (point_at p.points.items i) n q
-  pub texts : (n : ℕ) (q : TextFirst) → any_for (text_means a b p q) n (moves_at p.made (state_at i)).texts row.texts ≡ text_takes_by first a b (point_at p.points.items i) n q
-  pub label_steps : AllZip (IsLabelStep b.auto (point_at p.points.items i).pattern p) (moves_at p.made (state_at i)).labels row.labels
-  pub text_steps : AllZip (IsTextStep b.auto (point_at p.points.items i).pattern p) (moves_at p.made (state_at i)).texts row.texts
+-- for each move of the pattern's state these are moves that take, with it, what the point means
+abbrev pub LabelsStand : Bool → Automaton → PatternStates → Points → PointView → List LabelMove → List ℕ → Type 0
+LabelsStand first a b p of moves numbers =
+    StandForMoves label_states (label_means a b) (moves_at b.auto of.pattern).labels p moves numbers (λ n q. takes_for (move_takes b.auto q) (moves_at b.auto of.pattern).labels first a b of n (element_of q))
+
+abbrev pub TextsStand : Bool → Automaton → PatternStates → Points → PointView → List TextMove → List ℕ → Type 0
+TextsStand first a b p of moves numbers =
+    StandForMoves text_states (text_means a b) (moves_at b.auto of.pattern).texts p moves numbers (λ n q. takes_for (text_takes b.auto q) (moves_at b.auto of.pattern).texts first a b of n (text_of q))
+
+pub record AreMovesFor (first : Bool) (a : Automaton) (b : PatternStates) (p : Points) (of : PointView) (moves : StateMoves) (row : RowView) : Type 0 where
+  pub labels : LabelsStand first a b p of moves.labels row.labels
+  pub texts : TextsStand first a b p of moves.texts row.texts
+
+-- the state of this number has its moves
+abbrev pub HasMoves : Bool → Automaton → PatternStates → Points → ℕ → RowView → Type 0
+HasMoves first a b p i row = AreMovesFor first a b p (point_at p.points.items i) (moves_at p.made (state_at i)) row
 
 -- the states that there are rows for have their moves, but for those that are old ones, and the
 -- others have none

@@ -1,19 +1,25 @@
 //! The moves that stand for one move of a pattern's state.
 
-ghost use Rattle.std.specs.Prelude.{◌≡◌, ◌<◌, ◌&&◌, ◌||◌, [], not, true, length, get_or, IfOk, OnOk};
-ghost use Rattle.std.specs.List.{AllByRecursion};
+ghost use Rattle.std.proofs.Common.{◌∙◌, ap, refl};
+ghost use Rattle.std.specs.Prelude.{◌≡◌, ◌<◌, ◌&&◌, ◌||◌, ℕ, Bool, List, [], not, length, get_or, IfOk, OnOk};
+ghost use Rattle.std.specs.List.{AllByRecursion, list_any};
+ghost use Rattle.xd_doc.specs.Document.{Document};
 ghost use Rattle.xd_doc.specs.Classes.{class_has};
 ghost use Rattle.xd_auto.specs.declared.auto.LabelMove.{LabelMove};
 ghost use Rattle.xd_auto.specs.declared.auto.TextMove.{TextMove};
-ghost use Rattle.xd_auto.specs.Automaton.{IsState, accepts, moves_at};
-ghost use Rattle.xd_boole.specs.Meaning.{any_accepts, element_of, is_state, move_takes, text_of, text_takes};
-ghost use Rattle.xd_boole.specs.Groups.{AllPass, group_refuses, label_side};
+ghost use Rattle.xd_auto.specs.declared.auto.State.{State};
+ghost use Rattle.xd_auto.specs.Automaton.{Automaton, LeadsBelow, StateMoves, accepts, moves_at};
+ghost use Rattle.xd_boole.specs.Meaning.{ElementFirst, TextFirst, element_of, is_state, move_takes, text_of, text_takes};
+ghost use Rattle.xd_boole.specs.Groups.{AllPass, group_refuses};
 ghost use Rattle.xd_boole.specs.Choices.{AllChoices, IsChoiceOf, choice_refuses};
 ghost use Rattle.xd_boole.specs.Refusals.{label_refused};
 ghost use Rattle.xd_boole.specs.Points.{MoveBelow, TextBelow};
 ghost use Rattle.xd_points.specs.Meaning.{IsPointOf, ServePoints, point};
 ghost use Rattle.xd_points.specs.Narrowing.{leaves_nothing};
-ghost use Rattle.xd_points.specs.Points.{AddsLabels, AddsTexts, ArePoints, ArePartsOf, AreRefusing, AreRestsOf, LabelLeads, TextLeads, any_before, any_text_before, parts_accept, rests_accept};
+ghost use Rattle.xd_boole.proofs.MoveBelowLemmas.{all_recursion};
+ghost use Rattle.xd_points.specs.declared.patterns.PatternStates.{PatternStates as PatternsView};
+ghost use Rattle.xd_points.specs.declared.points.Points.{Points as PointsView};
+ghost use Rattle.xd_points.specs.Points.{AddsLabels, AddsMoves, AddsTexts, ArePoints, ArePartsOf, AreRefusing, AreRestsOf, LabelLeads, LeadsAs, TextLeads, label_means, label_states, meaning, parts_accept, rests_accept, taken_before, text_means, text_states};
 
 use crate::patterns::PatternStates;
 use crate::points::{Point, Points, leaves_nothing, stand_for};
@@ -152,85 +158,6 @@ fn refusing_moves(
     Ok(moves)
 }
 
-/// The moves for the labels that two moves share, one of the left and one of the pattern's state,
-/// on what no state of the point's rights takes, and none of the first moves of the pattern's
-/// state.
-fn add_meet(
-    alloc: Global,
-    auto: &Auto,
-    patterns: &PatternStates,
-    points: &mut Points,
-    labels: &mut Vec<LabelMove>,
-    of: &Point,
-    one: &LabelMove,
-    two: &LabelMove,
-    place: usize,
-) -> Result<(), NoMemory>
-    requires patterns { ServePoints auto.now patterns.now }
-    requires whole { ArePoints auto.now patterns.now points.old }
-    requires leads { AllByRecursion (LabelLeads (label_side two.now) points.old) labels.old.items }
-    requires of { IsPointOf auto.now patterns.now of.now }
-    requires one { MoveBelow (length auto.now) one.now }
-    requires two { MoveBelow (length patterns.now.auto) two.now }
-    ensures { OnOk result (AddsLabels (label_side two.now) auto.now patterns.now points.old points.new labels.old.items labels.new.items (λ q. (move_takes auto.now q one.now && move_takes patterns.now.auto q two.now) && not (any_accepts patterns.now.taken.auto of.now.rights (element_of q) || any_before patterns.now.auto of.now.pattern place q))) }
-{
-    let Some(class) = one.class.meet(&two.class)? else {
-        return Ok(());
-    };
-    let step = LabelMove {
-        class,
-        content: two.content,
-        rest: two.rest,
-    };
-    let parts = Parts {
-        left: side_of(one),
-        pattern: side_of(two),
-    };
-    let moves = refusing_moves(alloc, auto, patterns, of, &step, parts, place)?;
-    let groups = label_refusals(alloc, &patterns.taken, &step.class, &moves)?;
-    for group in &groups {
-        add_group(alloc, auto, patterns, points, labels, parts, group)?;
-    }
-    Ok(())
-}
-
-/// The moves on an element that stand for the move of this number of the pattern's state.
-pub(crate) fn label_steps(
-    alloc: Global,
-    auto: &Auto,
-    patterns: &PatternStates,
-    points: &mut Points,
-    of: &Point,
-    number: usize,
-    place: usize,
-) -> Result<Vec<LabelMove>, NoMemory>
-    requires patterns { ServePoints auto.now patterns.now }
-    requires whole { ArePoints auto.now patterns.now points.old }
-    requires of { IsPointOf auto.now patterns.now of.now }
-    requires number { number < length (moves_at patterns.now.auto of.now.pattern).labels }
-    ensures { IfOk result (λ labels. (m : LabelMove) → m ≡ get_or (moves_at patterns.now.auto of.now.pattern).labels number m → AddsLabels (label_side m) auto.now patterns.now points.old points.new [] labels.items (λ q. accepts auto.now (element_of q) of.now.left && (move_takes patterns.now.auto q m && not (any_accepts patterns.now.taken.auto of.now.rights (element_of q) || any_before patterns.now.auto of.now.pattern place q)))) }
-{
-    let two = &patterns.auto.label_moves(of.pattern)[number];
-    let numbers = two.matching(alloc, auto, of.left)?;
-    let ones = auto.label_moves(of.left);
-    let mut labels = Vec::new(alloc);
-    for number in &numbers {
-        let one = &ones[*number];
-        add_meet(
-            alloc,
-            auto,
-            patterns,
-            points,
-            &mut labels,
-            of,
-            one,
-            two,
-            place,
-        )?;
-    }
-    Ok(labels)
-}
-
 /// The move for the texts of a group; none where one of its states is known to accept everything,
 /// or nothing is left of what follows.
 fn add_text_group(
@@ -272,53 +199,196 @@ fn add_text_group(
     Ok(())
 }
 
-/// The moves for the texts that two moves share.
-fn add_text_meet(
-    alloc: Global,
-    auto: &Auto,
-    patterns: &PatternStates,
-    points: &mut Points,
-    texts: &mut Vec<TextMove>,
-    of: &Point,
-    one: &TextMove,
-    two: &TextMove,
-    place: usize,
-) -> Result<(), NoMemory>
-    requires patterns { ServePoints auto.now patterns.now }
-    requires whole { ArePoints auto.now patterns.now points.old }
-    requires leads { AllByRecursion (TextLeads two.now.rest points.old) texts.old.items }
-    requires of { IsPointOf auto.now patterns.now of.now }
-    requires one { TextBelow (length auto.now) one.now }
-    requires two { TextBelow (length patterns.now.auto) two.now }
-    ensures { OnOk result (AddsTexts two.now.rest auto.now patterns.now points.old points.new texts.old.items texts.new.items (λ q. (text_takes auto.now q one.now && text_takes patterns.now.auto q two.now) && not (any_accepts patterns.now.taken.auto of.now.rights (text_of q) || any_text_before patterns.now.auto of.now.pattern place q))) }
-{
-    let Some(words) = one.words.meet(&two.words)? else {
-        return Ok(());
-    };
-    let step = TextMove {
-        words,
-        rest: two.rest,
-    };
-    let rests = Rests {
-        left: one.rest,
-        pattern: two.rest,
-    };
-    let groups = text_groups_before(
-        alloc,
-        &patterns.taken.auto,
-        &step,
-        &of.rights,
-        of.pattern,
-        place,
-    )?;
-    for group in &groups {
-        add_text_group(alloc, auto, patterns, points, texts, rests, group)?;
-    }
-    Ok(())
+/// A move of a pattern's state, on an element or on a text, and how the moves are made that stand for
+/// it.
+pub(crate) trait PatternMove: Move + Drop {
+    /// How documents begin that moves of this kind take: with an element, or with a text.
+    ghost First: { Type 0 };
+
+    /// The document.
+    ghost document: { First → Document };
+
+    /// Its label, or its text.
+    ghost name: { First → List ℕ };
+
+    /// The states that the move leads to.
+    ghost states: { Self → List State };
+
+    /// Whether the document goes on as the move says, by a test of states and documents.
+    ghost goes_on: { (State → Document → Bool) → First → Self → Bool };
+
+    /// Whether the move takes the document.
+    ghost takes: { Automaton → First → Self → Bool };
+
+    /// Whether a move between states of points takes it, by what the points mean.
+    ghost means: { Automaton → PatternsView → PointsView → First → Self → Bool };
+
+    /// It leads to states below a number.
+    ghost below: { ℕ → Self → Type 0 };
+
+    /// Puts the moves for the names that two moves share, one of the left and one of the pattern's
+    /// state, after the others, on what no state of the point's rights takes, and none of the first
+    /// moves of the pattern's state.
+    fn add_meet(
+        alloc: Global,
+        auto: &Auto,
+        patterns: &PatternStates,
+        points: &mut Points,
+        moves: &mut Vec<Self>,
+        of: &Point,
+        one: &Self,
+        two: &Self,
+        place: usize,
+    ) -> Result<(), NoMemory>
+        requires patterns { ServePoints auto.now patterns.now }
+        requires whole { ArePoints auto.now patterns.now points.old }
+        requires leads { AllByRecursion (LeadsAs states two.now points.old) moves.old.items }
+        requires of { IsPointOf auto.now patterns.now of.now }
+        requires one { below (length auto.now) one.now }
+        requires two { below (length patterns.now.auto) two.now }
+        ensures { OnOk result (AddsMoves (LeadsAs states two.now) (means auto.now patterns.now) auto.now patterns.now points.old points.new moves.old.items moves.new.items (λ q. (takes auto.now q one.now && takes patterns.now.auto q two.now) && not (taken_before (takes patterns.now.auto q) (Self.moves_in (moves_at patterns.now.auto of.now.pattern)) patterns.now of.now place (document q)))) };
+
+    /// A state accepts a document by the moves that take it.
+    ghost accepted: { (a : Automaton) (s : State) (q : First) → accepts a (document q) s ≡ list_any (takes a q) (Self.moves_in (moves_at a s)) };
+
+    /// A move takes it if it has the name, and its states accept what they are for.
+    ghost taken: { (a : Automaton) (q : First) → takes a q ≡ (λ (m : Self). Self.has m (name q) && goes_on (λ s d. accepts a d s) q m) };
+
+    /// The same of points.
+    ghost meant: { (a : Automaton) (b : PatternsView) (p : PointsView) (q : First) → means a b p q ≡ (λ (m : Self). Self.has m (name q) && goes_on (λ s d. meaning a b p s.number d) q m) };
+
+    /// Tests that agree on its states tell the same.
+    ghost agree: { (t u : State → Document → Bool) (q : First) (m : Self) → AllByRecursion (λ s. (d : Document) → t s d ≡ u s d) (states m) → goes_on t q m ≡ goes_on u q m };
+
+    /// The moves of a closed automaton lead to its states.
+    ghost closed: { (n : ℕ) (moves : StateMoves) → LeadsBelow n moves → AllByRecursion (below n) (Self.moves_in moves) };
 }
 
-/// The moves on a text that stand for the move of this number of the pattern's state.
-pub(crate) fn text_steps(
+impl PatternMove for LabelMove {
+    ghost First = { ElementFirst };
+
+    ghost document = { element_of };
+
+    ghost name = { λ q. q.label };
+
+    ghost states = { label_states };
+
+    ghost goes_on = { λ t q m. t m.content q.content && t m.rest q.rest };
+
+    ghost takes = { move_takes };
+
+    ghost means = { label_means };
+
+    ghost below = { MoveBelow };
+
+    ghost accepted = { λ a s q. refl };
+
+    ghost taken = { λ a q. refl };
+
+    ghost meant = { λ a b p q. refl };
+
+    ghost agree = { λ t u q m same. ap (λ v. v && t m.rest q.rest) (same.0 q.content) ∙ ap (λ v. u m.content q.content && v) (same.1.0 q.rest) };
+
+    ghost closed = { λ n moves closed. all_recursion (MoveBelow n) moves.labels closed.labels };
+
+    fn add_meet(
+        alloc: Global,
+        auto: &Auto,
+        patterns: &PatternStates,
+        points: &mut Points,
+        labels: &mut Vec<LabelMove>,
+        of: &Point,
+        one: &LabelMove,
+        two: &LabelMove,
+        place: usize,
+    ) -> Result<(), NoMemory> {
+        let Some(class) = one.class.meet(&two.class)? else {
+            return Ok(());
+        };
+        let step = LabelMove {
+            class,
+            content: two.content,
+            rest: two.rest,
+        };
+        let parts = Parts {
+            left: side_of(one),
+            pattern: side_of(two),
+        };
+        let moves = refusing_moves(alloc, auto, patterns, of, &step, parts, place)?;
+        let groups = label_refusals(alloc, &patterns.taken, &step.class, &moves)?;
+        for group in &groups {
+            add_group(alloc, auto, patterns, points, labels, parts, group)?;
+        }
+        Ok(())
+    }
+}
+
+impl PatternMove for TextMove {
+    ghost First = { TextFirst };
+
+    ghost document = { text_of };
+
+    ghost name = { λ q. q.characters };
+
+    ghost states = { text_states };
+
+    ghost goes_on = { λ t q m. t m.rest q.rest };
+
+    ghost takes = { text_takes };
+
+    ghost means = { text_means };
+
+    ghost below = { TextBelow };
+
+    ghost accepted = { λ a s q. refl };
+
+    ghost taken = { λ a q. refl };
+
+    ghost meant = { λ a b p q. refl };
+
+    ghost agree = { λ t u q m same. same.0 q.rest };
+
+    ghost closed = { λ n moves closed. all_recursion (TextBelow n) moves.texts closed.texts };
+
+    fn add_meet(
+        alloc: Global,
+        auto: &Auto,
+        patterns: &PatternStates,
+        points: &mut Points,
+        texts: &mut Vec<TextMove>,
+        of: &Point,
+        one: &TextMove,
+        two: &TextMove,
+        place: usize,
+    ) -> Result<(), NoMemory> {
+        let Some(words) = one.words.meet(&two.words)? else {
+            return Ok(());
+        };
+        let step = TextMove {
+            words,
+            rest: two.rest,
+        };
+        let rests = Rests {
+            left: one.rest,
+            pattern: two.rest,
+        };
+        let groups = text_groups_before(
+            alloc,
+            &patterns.taken.auto,
+            &step,
+            &of.rights,
+            of.pattern,
+            place,
+        )?;
+        for group in &groups {
+            add_text_group(alloc, auto, patterns, points, texts, rests, group)?;
+        }
+        Ok(())
+    }
+}
+
+/// The moves that stand for the move of this number of the pattern's state.
+pub(crate) fn steps<M: PatternMove>(
     alloc: Global,
     auto: &Auto,
     patterns: &PatternStates,
@@ -326,22 +396,23 @@ pub(crate) fn text_steps(
     of: &Point,
     number: usize,
     place: usize,
-) -> Result<Vec<TextMove>, NoMemory>
+) -> Result<Vec<M>, NoMemory>
     requires patterns { ServePoints auto.now patterns.now }
     requires whole { ArePoints auto.now patterns.now points.old }
     requires of { IsPointOf auto.now patterns.now of.now }
-    requires number { number < length (moves_at patterns.now.auto of.now.pattern).texts }
-    ensures { IfOk result (λ texts. (m : TextMove) → m ≡ get_or (moves_at patterns.now.auto of.now.pattern).texts number m → AddsTexts m.rest auto.now patterns.now points.old points.new [] texts.items (λ q. accepts auto.now (text_of q) of.now.left && (text_takes patterns.now.auto q m && not (any_accepts patterns.now.taken.auto of.now.rights (text_of q) || any_text_before patterns.now.auto of.now.pattern place q)))) }
+    requires number { number < length (M.moves_in (moves_at patterns.now.auto of.now.pattern)) }
+    ensures { IfOk result (λ made. (m : M) → m ≡ get_or (M.moves_in (moves_at patterns.now.auto of.now.pattern)) number m → AddsMoves (LeadsAs M.states m) (M.means auto.now patterns.now) auto.now patterns.now points.old points.new [] made.items (λ q. accepts auto.now (M.document q) of.now.left && (M.takes patterns.now.auto q m && not (taken_before (M.takes patterns.now.auto q) (M.moves_in (moves_at patterns.now.auto of.now.pattern)) patterns.now of.now place (M.document q))))) }
 {
-    let two = &patterns.auto.text_moves(of.pattern)[number];
+    let twos = M::moves(&patterns.auto, of.pattern);
+    let two = &twos[number];
     let numbers = two.matching(alloc, auto, of.left)?;
-    let ones = auto.text_moves(of.left);
-    let mut texts = Vec::new(alloc);
+    let ones = M::moves(auto, of.left);
+    let mut made = Vec::new(alloc);
     for number in &numbers {
         let one = &ones[*number];
-        add_text_meet(
-            alloc, auto, patterns, points, &mut texts, of, one, two, place,
+        M::add_meet(
+            alloc, auto, patterns, points, &mut made, of, one, two, place,
         )?;
     }
-    Ok(texts)
+    Ok(made)
 }

@@ -1,18 +1,17 @@
 //! The moves of the states of points.
 
 ghost use Rattle.std.specs.Prelude.{◌≡◌, ◌<◌, ◌+◌, ◌++◌, ◌∷◌, [], length, map, IfOk, OnOk};
-ghost use Rattle.xd_auto.specs.declared.auto.LabelMove.{LabelMove};
-ghost use Rattle.xd_auto.specs.declared.auto.TextMove.{TextMove};
+ghost use Rattle.xd_auto.specs.Automaton.{moves_at};
 ghost use Rattle.xd_points.specs.Meaning.{IsPointOf, ServePoints};
 ghost use Rattle.xd_points.specs.FirstRuns.{place_before};
-ghost use Rattle.xd_points.specs.Points.{AreExpanded, ArePoints, KeepMoves, KeepsPoints, MakesLabels, MakesTexts, RowView, label_takes, no_row, text_takes_by};
+ghost use Rattle.xd_points.specs.Points.{AreExpanded, ArePoints, Grows, KeepMoves, KeepsPoints, RowView, StandForMoves, no_row, takes_for};
 
-use crate::moves::{label_steps, text_steps};
+use crate::moves::{PatternMove, steps};
 use crate::patterns::PatternStates;
 use crate::points::{Point, Points, copy_point, is_old};
 use std::alloc::Global;
 use std::marker::Model;
-use xd_auto::{Auto, LabelMove, TextMove};
+use xd_auto::Auto;
 use xd_doc::NoMemory;
 
 /// For each move of a state, by its kind and number, the number of the pattern's move that it
@@ -32,31 +31,14 @@ impl Model for Row {
 }
 
 /// Puts moves after others, and for each the number of the move that it stands for.
-fn append_labels(
-    moves: &mut Vec<LabelMove>,
+fn append<M: Drop>(
+    moves: &mut Vec<M>,
     numbers: &mut Vec<usize>,
-    steps: Vec<LabelMove>,
+    steps: Vec<M>,
     number: usize,
 ) -> Result<(), NoMemory>
     ensures moves { OnOk result (moves.new.items ≡ moves.old.items ++ steps.items) }
-    ensures numbers { OnOk result (numbers.new.items ≡ numbers.old.items ++ map (λ (m : LabelMove). number) steps.items) }
-{
-    for step in steps {
-        moves.push(step)?;
-        numbers.push(number)?;
-    }
-    Ok(())
-}
-
-/// The same of moves on a text.
-fn append_texts(
-    moves: &mut Vec<TextMove>,
-    numbers: &mut Vec<usize>,
-    steps: Vec<TextMove>,
-    number: usize,
-) -> Result<(), NoMemory>
-    ensures moves { OnOk result (moves.new.items ≡ moves.old.items ++ steps.items) }
-    ensures numbers { OnOk result (numbers.new.items ≡ numbers.old.items ++ map (λ (m : TextMove). number) steps.items) }
+    ensures numbers { OnOk result (numbers.new.items ≡ numbers.old.items ++ map (λ (m : M). number) steps.items) }
 {
     for step in steps {
         moves.push(step)?;
@@ -72,54 +54,32 @@ fn place_of(first: bool, number: usize) -> usize
     if first { number } else { 0 }
 }
 
-/// The moves of a point's state on an element, with the numbers of the pattern's moves that they
+/// The moves of a point's state, of one kind, with the numbers of the pattern's moves that they
 /// stand for. With `first`, where the pattern's state goes by a move each more preferred one must
 /// fail.
-fn label_moves(
+fn moves_of<M: PatternMove>(
     alloc: Global,
     auto: &Auto,
     patterns: &PatternStates,
     points: &mut Points,
     of: &Point,
     first: bool,
-) -> Result<(Vec<LabelMove>, Vec<usize>), NoMemory>
+) -> Result<(Vec<M>, Vec<usize>), NoMemory>
     requires patterns { ServePoints auto.now patterns.now }
     requires whole { ArePoints auto.now patterns.now points.old }
     requires of { IsPointOf auto.now patterns.now of.now }
-    ensures { IfOk result (λ made. MakesLabels of.now.pattern auto.now patterns.now points.old points.new made.0.items made.1.items (label_takes first auto.now patterns.now of.now)) }
+    ensures whole { OnOk result (ArePoints auto.now patterns.now points.new) }
+    ensures grows { OnOk result (Grows points.old points.new) }
+    ensures stand { IfOk result (λ made. StandForMoves M.states (M.means auto.now patterns.now) (M.moves_in (moves_at patterns.now.auto of.now.pattern)) points.new made.0.items made.1.items (λ n q. takes_for (M.takes patterns.now.auto q) (M.moves_in (moves_at patterns.now.auto of.now.pattern)) first auto.now patterns.now of.now n (M.document q))) }
 {
-    let mut labels = Vec::new(alloc);
+    let mut moves = Vec::new(alloc);
     let mut numbers = Vec::new(alloc);
-    for number in 0..patterns.auto.label_moves(of.pattern).len() {
+    for number in 0..M::moves(&patterns.auto, of.pattern).len() {
         let place = place_of(first, number);
-        let steps = label_steps(alloc, auto, patterns, points, of, number, place)?;
-        append_labels(&mut labels, &mut numbers, steps, number)?;
+        let made = steps(alloc, auto, patterns, points, of, number, place)?;
+        append(&mut moves, &mut numbers, made, number)?;
     }
-    Ok((labels, numbers))
-}
-
-/// The same on a text.
-fn text_moves(
-    alloc: Global,
-    auto: &Auto,
-    patterns: &PatternStates,
-    points: &mut Points,
-    of: &Point,
-    first: bool,
-) -> Result<(Vec<TextMove>, Vec<usize>), NoMemory>
-    requires patterns { ServePoints auto.now patterns.now }
-    requires whole { ArePoints auto.now patterns.now points.old }
-    requires of { IsPointOf auto.now patterns.now of.now }
-    ensures { IfOk result (λ made. MakesTexts of.now.pattern auto.now patterns.now points.old points.new made.0.items made.1.items (text_takes_by first auto.now patterns.now of.now)) }
-{
-    let mut texts = Vec::new(alloc);
-    let mut numbers = Vec::new(alloc);
-    for number in 0..patterns.auto.text_moves(of.pattern).len() {
-        let place = place_of(first, number);
-        let steps = text_steps(alloc, auto, patterns, points, of, number, place)?;
-        append_texts(&mut texts, &mut numbers, steps, number)?;
-    }
-    Ok((texts, numbers))
+    Ok((moves, numbers))
 }
 
 /// Puts a row without moves after the others.
@@ -158,8 +118,8 @@ pub(crate) fn expand(
         add_bare(alloc, rows)?;
         return Ok(());
     }
-    let (labels, label_numbers) = label_moves(alloc, auto, patterns, points, &of, first)?;
-    let (texts, text_numbers) = text_moves(alloc, auto, patterns, points, &of, first)?;
+    let (labels, label_numbers) = moves_of(alloc, auto, patterns, points, &of, first)?;
+    let (texts, text_numbers) = moves_of(alloc, auto, patterns, points, &of, first)?;
     let state = points.made.state(number);
     points.made.set_moves(state, labels, texts);
     rows.push(Row {

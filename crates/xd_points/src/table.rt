@@ -1,6 +1,6 @@
 //! Points that are kept from call to call, and states that accept what they mean.
 
-ghost use Rattle.std.specs.Prelude.{◌≡◌, ◌<◌, length, slice_get, IfOk, IfSome, OnOk};
+ghost use Rattle.std.specs.Prelude.{◌≡◌, ◌<◌, false, length, slice_get, IfOk, IfSome, OnOk};
 ghost use Rattle.std.specs.List.{AllByRecursion};
 ghost use Rattle.xd_doc.specs.Document.{Document};
 ghost use Rattle.xd_auto.specs.Automaton.{Automaton, Extends, IsState, state_number};
@@ -75,7 +75,8 @@ impl PointTable {
 
     /// No points. Runs through those that come will be all runs of the pattern on what they mean.
     pub fn new(alloc: Global) -> Self
-        ensures { (a : Automaton) (b : PatternsView) → IsTableOf a b result }
+        ensures table { (a : Automaton) (b : PatternsView) → IsTableOf a b result }
+        ensures runs { of_first_runs result ≡ false }
     {
         Self::of_runs(alloc, false)
     }

@@ -1,10 +1,9 @@
 use Rattle.std.proofs.Common.{◌&&◌, ap, subst, sym, ◌∙◌}
 use Rattle.xd_doc.specs.Classes.{class_has}
 use Rattle.xd_boole.specs.Choices.{AllChoices, IsChoiceOf, any_choice, choice_refuses}
-use Rattle.xd_points.specs.Points.{LabelLeads, label_means, parts_accept}
-use Rattle.xd_points.proofs.ArePointsLemmas.{grows_same}
+use Rattle.xd_points.specs.Points.{parts_accept}
 use Rattle.xd_boole.proofs.DifferenceLemmas.{and_nothing, both_more}
-use Rattle.xd_points.proofs.GrowsLemmas.{adds_like, adds_none, adds_then, label_stays, labels_more}
+use Rattle.xd_points.proofs.GrowsLemmas.{adds_like, adds_none, adds_then}
 use Rattle.xd_boole.proofs.Bools.{part_group}
 use Rattle.xd_boole.proofs.Lists.{all_step, any_walked}
 use Rattle.xd_points.proofs.moves.add_group.Goals as goal
@@ -13,7 +12,7 @@ pub loop-choice-init : goal.loop-choice-init
 loop-choice-init c =
     let a = c.args.auto.now in let b = c.args.patterns.now in
     record {
-      adds = adds_none (LabelLeads c.args.parts.pattern) (label_means a b) a b (label_stays a b c.args.parts.pattern) (labels_more c.args.parts.pattern) c.args.points.now c.args.labels.now.items _ c.requires.whole c.requires.leads (grows_same c.args.points.now)
+      adds = adds_none c.requires.whole c.requires.leads
           (λ q. and_nothing (class_has c.args.group.now.class q.label) (parts_accept a b q.content q.rest c.args.parts));
       left = subst (AllChoices b.taken.auto) (sym c.deref-choice-items.ensures.value) c.requires.group;
     }
@@ -26,7 +25,7 @@ loop-choice-preserved c =
     let x = c.choice-item.result in
     let next = all_step (IsChoiceOf b.taken.auto) items i x c.loop-choice-test.true c.choice-item.is c.loop-choice.invariant.left in
     record {
-      adds = adds_then (LabelLeads c.args.parts.pattern) (label_means a b) a b (label_stays a b c.args.parts.pattern) (labels_more c.args.parts.pattern) _ _ _ _ _ _ _ _ _ c.loop-choice.invariant.adds c.in_ok-add_move.ensures
+      adds = adds_then c.loop-choice.invariant.adds c.in_ok-add_move.ensures
           (λ q. both_more (choice_refuses b.taken.auto q.content q.rest) items i x (class_has c.args.group.now.class q.label) (parts_accept a b q.content q.rest c.args.parts) c.loop-choice-test.true c.choice-item.is);
       left = next.1;
     }
@@ -37,7 +36,7 @@ returns c =
     let b = c.args.patterns.now in
     let group = c.args.group.now in
     let items = c.deref-choice-items.result.now in
-    adds_like (LabelLeads c.args.parts.pattern) (label_means a b) a b (label_stays a b c.args.parts.pattern) (labels_more c.args.parts.pattern) c.args.points.now c.loop-choice.points c.args.labels.now.items c.loop-choice.labels.items _ _ c.loop-choice.invariant.adds
+    adds_like c.loop-choice.invariant.adds
     (λ q.
     ap (λ w. class_has group.class q.label && (parts_accept a b q.content q.rest c.args.parts && w)) (any_walked (choice_refuses b.taken.auto q.content q.rest) items c.loop-choice.choice-index c.loop-choice-test.false ∙ ap (any_choice b.taken.auto q.content q.rest) c.deref-choice-items.ensures.value)
     ∙ part_group (parts_accept a b q.content q.rest c.args.parts) (class_has group.class q.label) (any_choice b.taken.auto q.content q.rest group.choices.items))

@@ -9,10 +9,9 @@ use Rattle.xd_auto.specs.declared.auto.LabelMove.{LabelMove}
 use Rattle.xd_auto.specs.declared.auto.State.{State}
 use Rattle.xd_points.specs.Meaning.{point}
 use Rattle.xd_points.specs.Narrowing.{leaves_nothing}
-use Rattle.xd_points.specs.Points.{LabelLeads, StandsFor, label_means}
-use Rattle.xd_points.proofs.ArePointsLemmas.{grows_same}
+use Rattle.xd_points.specs.Points.{StandsFor}
 use Rattle.xd_points.proofs.MeetLemmas.{move_added, nothing_meant, part_none}
-use Rattle.xd_points.proofs.GrowsLemmas.{adds_none, label_stays, labels_more}
+use Rattle.xd_points.proofs.GrowsLemmas.{adds_none}
 use Rattle.xd_points.proofs.moves.add_move.Goals as goal
 
 pub returns : goal.returns
@@ -57,7 +56,7 @@ returns-then-leads_nowhere c =
     let choice = c.args.choice.now in
     let inside = point parts.left.content parts.pattern.content choice.contents.items in
     let behind = point parts.left.rest parts.pattern.rest choice.rests.items in
-    adds_none (LabelLeads parts.pattern) (label_means a b) a b (label_stays a b parts.pattern) (labels_more parts.pattern) c.args.points.now c.args.labels.now.items _ c.requires.whole c.requires.leads (grows_same c.args.points.now)
+    adds_none c.requires.whole c.requires.leads
     (λ q.
     part_none (class_has c.args.class.now q.label) (accepts a q.content parts.left.content) (accepts a q.rest parts.left.rest) (accepts b.auto q.content parts.pattern.content) (accepts b.auto q.rest parts.pattern.rest)
     (any_accepts b.taken.auto choice.contents.items q.content) (any_accepts b.taken.auto choice.rests.items q.rest) (leaves_nothing b inside) (leaves_nothing b behind)

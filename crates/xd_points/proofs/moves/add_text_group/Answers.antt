@@ -8,12 +8,11 @@ use Rattle.xd_auto.specs.Automaton.{IsState, accepts}
 use Rattle.xd_empty.specs.Parts.{is_marked}
 use Rattle.xd_points.specs.Meaning.{point}
 use Rattle.xd_points.specs.Narrowing.{leaves_nothing}
-use Rattle.xd_points.specs.Points.{TextLeads, rests_accept, text_means}
+use Rattle.xd_points.specs.Points.{rests_accept}
 use Rattle.xd_boole.specs.Meaning.{any_accepts, with_states}
-use Rattle.xd_points.proofs.ArePointsLemmas.{grows_same}
 use Rattle.xd_boole.proofs.DifferenceLemmas.{none_taken}
 use Rattle.xd_points.proofs.MeetLemmas.{nothing_meant, text_added, text_none}
-use Rattle.xd_points.proofs.GrowsLemmas.{adds_none, text_stays, texts_more}
+use Rattle.xd_points.proofs.GrowsLemmas.{adds_none}
 use Rattle.xd_boole.proofs.UniversalLemmas.{marked_accepts}
 use Rattle.xd_boole.proofs.AnyAcceptsLemmas.{set_accepts, states_are, with_states_all}
 use Rattle.xd_points.proofs.moves.add_text_group.Goals as goal
@@ -38,7 +37,7 @@ returns-then-any_marked c =
     let marked : list_any (is_marked marks) sides ≡ true =
     subst (λ (ss : List State). list_any (is_marked marks) ss ≡ true) c.deref-2.ensures.value
     (subst (λ (ms : List Bool). list_any (is_marked ms) c.deref-2.result.now ≡ true) c.deref.ensures.value (sym c.any_marked.ensures ∙ c.if-any_marked.true)) in
-    adds_none (TextLeads c.args.rests.pattern) (text_means a b) a b (text_stays a b c.args.rests.pattern) (texts_more c.args.rests.pattern) c.args.points.now c.args.texts.now.items _ c.requires.whole c.requires.leads (grows_same c.args.points.now)
+    adds_none c.requires.whole c.requires.leads
     (λ q. none_taken (rests_accept a b q.rest c.args.rests) (class_has c.args.group.now.class q.characters) (any_accepts b.taken.auto sides q.rest) (marked_accepts b.taken.auto marks sides q.rest c.requires.patterns.universal marked))
 
 pub returns-then-leaves_nothing : goal.returns-then-leaves_nothing
@@ -49,7 +48,7 @@ returns-then-leaves_nothing c =
     let sides = c.args.group.now.sides.items in
     let is : c.deref-4.result.now ≡ with_states sides [] = c.deref-4.ensures.value ∙ c.in_ok-rights.ensures ∙ ap (λ ss. with_states ss []) c.deref-3.ensures.value in
     let none : leaves_nothing b (point rests.left rests.pattern c.deref-4.result.now) ≡ true = sym c.leaves_nothing.ensures ∙ c.if-leaves_nothing.true in
-    adds_none (TextLeads rests.pattern) (text_means a b) a b (text_stays a b rests.pattern) (texts_more rests.pattern) c.args.points.now c.args.texts.now.items _ c.requires.whole c.requires.leads (grows_same c.args.points.now)
+    adds_none c.requires.whole c.requires.leads
     (λ q.
     ap (λ w. rests_accept a b q.rest rests && (class_has c.args.group.now.class q.characters && not w)) (sym (set_accepts b.taken.auto sides q.rest) ∙ sym (ap (λ (ss : List State). any_accepts b.taken.auto ss q.rest) is))
     ∙ text_none (accepts a q.rest rests.left) (accepts b.auto q.rest rests.pattern) (class_has c.args.group.now.class q.characters) (not (any_accepts b.taken.auto c.deref-4.result.now q.rest))

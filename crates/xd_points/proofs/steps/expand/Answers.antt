@@ -10,21 +10,21 @@ use Rattle.xd_points.proofs.steps.expand.Goals as goal
 pub set_moves-requires-clause-labels : goal.set_moves-requires-clause-labels
 set_moves-requires-clause-labels c =
     let a = c.args.auto.now in let b = c.args.patterns.now in
-    labels_lead a b _ c.label_moves.new.points c.text_moves.new.points c.in_ok-labels.labels.items c.in_ok-labels.label_numbers.items c.in_ok-labels.ensures.steps
-    (keeps c.label_moves.new.points c.text_moves.new.points c.in_ok-texts.ensures.grows) c.in_ok-texts.ensures.whole
+    labels_lead a b _ c.moves_of.new.points c.moves_of-2.new.points c.in_ok-labels.labels.items c.in_ok-labels.label_numbers.items c.in_ok-labels.ensures.stand.steps
+    (keeps c.moves_of.new.points c.moves_of-2.new.points c.in_ok-texts.ensures.grows) c.in_ok-texts.ensures.whole
 
 pub set_moves-requires-clause-texts : goal.set_moves-requires-clause-texts
 set_moves-requires-clause-texts c =
     let a = c.args.auto.now in let b = c.args.patterns.now in
-    texts_lead a b _ c.text_moves.new.points c.text_moves.new.points c.in_ok-texts.texts.items c.in_ok-texts.text_numbers.items c.in_ok-texts.ensures.steps
-    (keeps_same c.text_moves.new.points) c.in_ok-texts.ensures.whole
+    texts_lead a b _ c.moves_of-2.new.points c.moves_of-2.new.points c.in_ok-texts.texts.items c.in_ok-texts.text_numbers.items c.in_ok-texts.ensures.stand.steps
+    (keeps_same c.moves_of-2.new.points) c.in_ok-texts.ensures.whole
 
 pub returns-clause-expanded : goal.returns-clause-expanded
 returns-clause-expanded c =
     let a = c.args.auto.now in
     let b = c.args.patterns.now in
     let p = c.args.points.now in
-    let new = c.text_moves.new.points in
+    let new = c.moves_of-2.new.points in
     let made = c.set_moves.new.self in
     let rows = c.args.rows.now.items in
     let labels = c.in_ok-labels.labels.items in
@@ -32,8 +32,8 @@ returns-clause-expanded c =
     let row : RowView = record { labels = c.in_ok-labels.label_numbers.items; texts = c.in_ok-texts.text_numbers.items } in
     let n : c.len-number.result ≡ length rows = omega (arith, c.len-number.ensures, c.args.rows.now.ok.0) in
     subst (AreExpanded c.args.first a b (with_made new made)) (sym c.in_ok-push.ensures.items)
-    (expanded_more c.args.first a b p c.label_moves.new.points new made rows row _ labels texts
-    c.requires.expanded c.requires.more (ap (point_at p.points.items) (sym n) ∙ sym c.in_ok-of.ensures) c.in_ok-labels.ensures c.in_ok-texts.ensures
+    (expanded_more c.args.first a b p c.moves_of.new.points new made rows row _ labels texts
+    c.requires.expanded c.requires.more (ap (point_at p.points.items) (sym n) ∙ sym c.in_ok-of.ensures) c.in_ok-labels.ensures.grows c.in_ok-texts.ensures.grows c.in_ok-texts.ensures.whole c.in_ok-labels.ensures.stand c.in_ok-texts.ensures.stand
     (subst (λ (k : ℕ). moves_at made (state_at k) ≡ record (moves_at new.made (state_at k)) { labels = labels; texts = texts }) (c.state-state.ensures.number ∙ n)
     (given_moves new.made made c.state-state.result _ c.state-state.ensures.belongs c.set_moves.ensures.value))
     (subst (λ (k : ℕ). ChangesOnly (state_at k) new.made made) (c.state-state.ensures.number ∙ n) c.set_moves.ensures.others))
@@ -43,15 +43,15 @@ returns-clause-moves c =
     let a = c.args.auto.now in
     let b = c.args.patterns.now in
     let p = c.args.points.now in
-    let new = c.text_moves.new.points in
+    let new = c.moves_of-2.new.points in
     let made = c.set_moves.new.self in
     let rows = c.args.rows.now.items in
     let labels = c.in_ok-labels.labels.items in
     let texts = c.in_ok-texts.texts.items in
     let row : RowView = record { labels = c.in_ok-labels.label_numbers.items; texts = c.in_ok-texts.text_numbers.items } in
     let n : c.len-number.result ≡ length rows = omega (arith, c.len-number.ensures, c.args.rows.now.ok.0) in
-    earlier_keep c.args.first a b p c.label_moves.new.points new made rows row _ labels texts
-    c.requires.expanded c.requires.more (ap (point_at p.points.items) (sym n) ∙ sym c.in_ok-of.ensures) c.in_ok-labels.ensures c.in_ok-texts.ensures
+    earlier_keep c.args.first a b p c.moves_of.new.points new made rows row _ labels texts
+    c.requires.expanded c.requires.more (ap (point_at p.points.items) (sym n) ∙ sym c.in_ok-of.ensures) c.in_ok-labels.ensures.grows c.in_ok-texts.ensures.grows c.in_ok-texts.ensures.whole c.in_ok-labels.ensures.stand c.in_ok-texts.ensures.stand
     (subst (λ (k : ℕ). moves_at made (state_at k) ≡ record (moves_at new.made (state_at k)) { labels = labels; texts = texts }) (c.state-state.ensures.number ∙ n)
     (given_moves new.made made c.state-state.result _ c.state-state.ensures.belongs c.set_moves.ensures.value))
     (subst (λ (k : ℕ). ChangesOnly (state_at k) new.made made) (c.state-state.ensures.number ∙ n) c.set_moves.ensures.others)

@@ -18,7 +18,7 @@ returns-then-is_empty-clause-exact c = λ d.
     sym (and_all (accepts c.args.auto.now d c.args.state) (any_accepts b rights d) (ap (λ (ss : List State). any_accepts b ss d) none))
 
 pub accept-requires-clause-table : goal.accept-requires-clause-table
-accept-requires-clause-table c = c.new-table.ensures c.args.auto.now c.args.self.now.states
+accept-requires-clause-table c = c.new-table.ensures.table c.args.auto.now c.args.self.now.states
 
 pub returns-clause-exact : goal.returns-clause-exact
 returns-clause-exact c = λ d.

@@ -1,22 +1,18 @@
--- The moves that stand for the moves of a pattern's state, and what those of each number take.
+-- Moves that stand for the moves of a pattern's state, and what those of each number take.
 use Rattle.std.proofs.Common.{ℕ, zero, suc, ◌+◌, ◌<◌, ◌≤◌, ◌≡◌, Bool, true, false, not, nat_eq, ◌&&◌, ◌||◌, List, [], ◌∷◌, ◌++◌, map, length, take, get_or, Some, refl, sym, ap, ◌∙◌, arith}
 use Rattle.std.specs.List.{All, AllByRecursion, AllZip, list_any, slice_get}
 use Rattle.std.specs.Cmp.{both_ways}
 use Rattle.std.proofs.lemmas.Bool.Decides.{nat_tests}
 use Rattle.std.proofs.lemmas.List.{take_all}
 use Rattle.xd_auto.specs.declared.auto.State.{State}
-use Rattle.xd_auto.specs.declared.auto.LabelMove.{LabelMove}
-use Rattle.xd_auto.specs.declared.auto.TextMove.{TextMove}
-use Rattle.xd_auto.specs.Automaton.{Automaton, moves_at}
+use Rattle.xd_auto.specs.Automaton.{Automaton}
 use Rattle.xd_points.specs.declared.patterns.PatternStates.{PatternStates}
-use Rattle.xd_boole.specs.Groups.{label_side, passes_at}
-use Rattle.xd_boole.specs.Meaning.{ElementFirst, TextFirst}
+use Rattle.xd_boole.specs.Groups.{passes_at}
 use Rattle.xd_boole.proofs.Bools.{and_false, and_left, and_over_right, and_right, or_join, or_nothing, or_true}
 use Rattle.xd_points.specs.declared.points.Points.{Points}
 use Rattle.xd_points.specs.FirstRuns.{place_before}
-use Rattle.xd_points.specs.Points.{AddsLabels, AddsTexts, ArePoints, IsLabelStep, IsTextStep, KeepsPoints, LabelLeads, MakesLabels, MakesMoves, MakesTexts, TextLeads, any_for, label_means, text_means}
-use Rattle.xd_points.proofs.ArePointsLemmas.{grows_same}
-use Rattle.xd_points.proofs.GrowsLemmas.{grows_trans, keeps, label_stays, labels_more, text_stays, texts_more}
+use Rattle.xd_points.specs.Points.{AddsMoves, IsStepOf, KeepsPoints, LeadsAs, LeadsTo, StandForMoves, any_for}
+use Rattle.xd_points.proofs.GrowsLemmas.{all_lead}
 
 -- ---- lists side by side
 
@@ -59,76 +55,50 @@ for_one : {A : Type 0} (p : A → Bool) (n i : ℕ) (xs : List A) → any_for p 
 for_one p n i [] = sym (and_false (nat_eq i n))
 for_one p n i (x ∷ xs) = ap (λ w. (nat_eq i n && p x) || w) (for_one p n i xs) ∙ and_over_right (nat_eq i n) (p x) (list_any p xs)
 
--- ---- steps stay
-
-pub label_step_more : (a : Automaton) (s : State) (p q : Points) → KeepsPoints p q → (m : LabelMove) (n : ℕ) → IsLabelStep a s p m n → IsLabelStep a s q m n
-label_step_more a s p q stay m n h = record { origin = h.origin; there = h.there; leads = labels_more (label_side h.origin) p q stay m h.leads }
-
-pub text_step_more : (a : Automaton) (s : State) (p q : Points) → KeepsPoints p q → (m : TextMove) (n : ℕ) → IsTextStep a s p m n → IsTextStep a s q m n
-text_step_more a s p q stay m n h = record { origin = h.origin; there = h.there; leads = texts_more h.origin.rest p q stay m h.leads }
-
-pub label_step_stays : (a : Automaton) (b : PatternStates) (s : State) (p q : Points) → KeepsPoints p q → (w : ElementFirst) (m : LabelMove) (n : ℕ) → IsLabelStep b.auto s p m n → label_means a b q w m ≡ label_means a b p w m
-label_step_stays a b s p q stay w m n h = label_stays a b (label_side h.origin) p q stay w m h.leads
-
-pub text_step_stays : (a : Automaton) (b : PatternStates) (s : State) (p q : Points) → KeepsPoints p q → (w : TextFirst) (m : TextMove) (n : ℕ) → IsTextStep b.auto s p m n → text_means a b q w m ≡ text_means a b p w m
-text_step_stays a b s p q stay w m n h = text_stays a b h.origin.rest p q stay w m h.leads
-
 -- ---- moves on elements and moves on texts alike
 
-module _ {M Q : Type 0} (IsStep : Points → M → ℕ → Type 0) (by_move : Points → Q → M → Bool) (a : Automaton) (b : PatternStates)
-    (stays : (p q : Points) → KeepsPoints p q → (w : Q) (m : M) (n : ℕ) → IsStep p m n → by_move q w m ≡ by_move p w m)
-    (more : (p q : Points) → KeepsPoints p q → (m : M) (n : ℕ) → IsStep p m n → IsStep q m n) where
-  pub steps_stay : (p q : Points) → KeepsPoints p q → (ms : List M) (ns : List ℕ) → AllZip (IsStep p) ms ns → (n : ℕ) (w : Q) → any_for (by_move q w) n ms ns ≡ any_for (by_move p w) n ms ns
-  steps_stay p q stay ms ns h n w = for_agree (IsStep p) (by_move q w) (by_move p w) n ms ns h (stays p q stay w)
+module _ {M Q : Type 0} {states : M → List State} {origins : List M} where
+  -- moves stand for the same where they mean the same
+  pub stand_other : {one other : Points → Q → M → Bool} {p : Points} {ms : List M} {ns : List ℕ} {f g : ℕ → Q → Bool} → ((w : Q) (origin m : M) → LeadsAs states origin p m → other p w m ≡ one p w m)
+      → StandForMoves states one origins p ms ns f → ((n : ℕ) (w : Q) → f n w ≡ g n w) → StandForMoves states other origins p ms ns g
+  stand_other {one} {other} {p} {ms} {ns} means h same = record {
+    steps = h.steps;
+    taken = λ n w. for_agree (IsStepOf states origins p) (other p w) (one p w) n ms ns h.steps (λ m k step. means w step.origin m step.leads) ∙ h.taken n w ∙ same n w;
+  }
 
-  pub makes_none : (p : Points) (takes : ℕ → Q → Bool) → ArePoints a b p → ((n : ℕ) (w : Q) → takes n w ≡ false) → MakesMoves IsStep by_move a b p p [] [] takes
-  makes_none p takes whole none = record { whole = whole; grows = grows_same p; steps = tt; taken = λ n w. sym (none n w) }
+  pub stand_like : {by_move : Points → Q → M → Bool} {p : Points} {ms : List M} {ns : List ℕ} {f g : ℕ → Q → Bool} → StandForMoves states by_move origins p ms ns f → ((n : ℕ) (w : Q) → f n w ≡ g n w) → StandForMoves states by_move origins p ms ns g
+  stand_like h same = record { steps = h.steps; taken = λ n w. h.taken n w ∙ same n w }
 
-  pub makes_like : (p q : Points) (ms : List M) (ns : List ℕ) (f g : ℕ → Q → Bool) → MakesMoves IsStep by_move a b p q ms ns f → ((n : ℕ) (w : Q) → f n w ≡ g n w) → MakesMoves IsStep by_move a b p q ms ns g
-  makes_like p q ms ns f g h same = record { whole = h.whole; grows = h.grows; steps = h.steps; taken = λ n w. h.taken n w ∙ same n w }
-
-  pub makes_then : (p q r : Points) (x y : List M) (k j : List ℕ) (f g h : ℕ → Q → Bool) → MakesMoves IsStep by_move a b p q x k f → MakesMoves IsStep by_move a b q r y j g
-      → ((n : ℕ) (w : Q) → (f n w || g n w) ≡ h n w) → MakesMoves IsStep by_move a b p r (x ++ y) (k ++ j) h
-  makes_then p q r x y k j f g h one two same =
-      let steps : AllZip (IsStep r) x k = zip_map (IsStep q) (IsStep r) x k (more q r (keeps q r two.grows)) one.steps in
-      record {
-        whole = two.whole;
-        grows = grows_trans p q r one.grows two.grows;
-        steps = zip_append (IsStep r) x k y j steps two.steps;
-        taken = λ n w.
-            for_append (IsStep r) (by_move r w) n x k y j steps
-            ∙ ap (λ v. v || any_for (by_move r w) n y j) (steps_stay q r (keeps q r two.grows) x k one.steps n w ∙ one.taken n w)
-            ∙ ap (λ v. f n w || v) (two.taken n w) ∙ same n w;
-      }
-
--- ---- the moves for one move
-
-module _ (a : Automaton) (b : PatternStates) (s : State) (old new : Points) (n : ℕ) where
-  pub labels_for : (m : LabelMove) (after : List LabelMove) (takes : ElementFirst → Bool) → slice_get (moves_at b.auto s).labels n ≡ Some m
-      → AddsLabels (label_side m) a b old new [] after takes → MakesLabels s a b old new after (map (λ (w : LabelMove). n) after) (λ k q. nat_eq n k && takes q)
-  labels_for m after takes there adds = record {
-    whole = adds.whole;
-    grows = adds.grows;
+  -- the moves for one move
+  pub stand_for : {by_move : Points → Q → M → Bool} {a : Automaton} {b : PatternStates} {p q : Points} {m : M} {after : List M} {takes : Q → Bool} (n : ℕ) → slice_get origins n ≡ Some m → AddsMoves (LeadsAs states m) by_move a b p q [] after takes
+      → StandForMoves states by_move origins q after (map (λ (w : M). n) after) (λ k w. nat_eq n k && takes w)
+  stand_for {by_move} {a} {b} {p} {q} {m} {after} {takes} n there adds = record {
     steps = each after adds.leads;
-    taken = λ k q. for_one (label_means a b new q) k n after ∙ ap (λ w. nat_eq n k && w) (adds.taken q);
+    taken = λ k w. for_one (by_move q w) k n after ∙ ap (λ v. nat_eq n k && v) (adds.taken w);
   }
     where
-      each : (ws : List LabelMove) → AllByRecursion (LabelLeads (label_side m) new) ws → AllZip (IsLabelStep b.auto s new) ws (map (λ (w : LabelMove). n) ws)
+      each : (ws : List M) → AllByRecursion (LeadsAs states m q) ws → AllZip (IsStepOf states origins q) ws (map (λ (w : M). n) ws)
       each [] l = tt
       each (w ∷ ws) l = (record { origin = m; there = there; leads = l.0 }, each ws l.1)
 
-  pub texts_for : (m : TextMove) (after : List TextMove) (takes : TextFirst → Bool) → slice_get (moves_at b.auto s).texts n ≡ Some m
-      → AddsTexts m.rest a b old new [] after takes → MakesTexts s a b old new after (map (λ (w : TextMove). n) after) (λ k q. nat_eq n k && takes q)
-  texts_for m after takes there adds = record {
-    whole = adds.whole;
-    grows = adds.grows;
-    steps = each after adds.leads;
-    taken = λ k q. for_one (text_means a b new q) k n after ∙ ap (λ w. nat_eq n k && w) (adds.taken q);
-  }
-    where
-      each : (ws : List TextMove) → AllByRecursion (TextLeads m.rest new) ws → AllZip (IsTextStep b.auto s new) ws (map (λ (w : TextMove). n) ws)
-      each [] l = tt
-      each (w ∷ ws) l = (record { origin = m; there = there; leads = l.0 }, each ws l.1)
+  -- moves stand for what they did while points come
+  module _ {by_move : Points → Q → M → Bool} (stays : (patterns : List State) (p q : Points) → KeepsPoints p q → (w : Q) (m : M) → AllZip (LeadsTo p) patterns (states m) → by_move q w m ≡ by_move p w m) where
+    pub stand_more : {p q : Points} {ms : List M} {ns : List ℕ} {takes : ℕ → Q → Bool} → KeepsPoints p q → StandForMoves states by_move origins p ms ns takes → StandForMoves states by_move origins q ms ns takes
+    stand_more {p} {q} {ms} {ns} {takes} stay h = record {
+      steps = zip_map (IsStepOf states origins p) (IsStepOf states origins q) ms ns (λ m n step. record { origin = step.origin; there = step.there; leads = all_lead p q stay (states step.origin) (states m) step.leads }) h.steps;
+      taken = λ n w. for_agree (IsStepOf states origins p) (by_move q w) (by_move p w) n ms ns h.steps (λ m k step. stays (states step.origin) p q stay w m step.leads) ∙ h.taken n w;
+    }
+
+    pub stand_then : {p q : Points} {x y : List M} {k j : List ℕ} {f g h : ℕ → Q → Bool} → KeepsPoints p q → StandForMoves states by_move origins p x k f → StandForMoves states by_move origins q y j g
+        → ((n : ℕ) (w : Q) → (f n w || g n w) ≡ h n w) → StandForMoves states by_move origins q (x ++ y) (k ++ j) h
+    stand_then {p} {q} {x} {y} {k} {j} {f} {g} {h} stay one two same =
+        let first : StandForMoves states by_move origins q x k f = stand_more stay one in
+        record {
+          steps = zip_append (IsStepOf states origins q) x k y j first.steps two.steps;
+          taken = λ n w.
+              for_append (IsStepOf states origins q) (by_move q w) n x k y j first.steps
+              ∙ ap (λ v. v || any_for (by_move q w) n y j) (first.taken n w) ∙ ap (λ v. f n w || v) (two.taken n w) ∙ same n w;
+        }
 
 -- ---- one more move of the pattern's state
 

@@ -4,7 +4,7 @@ use Rattle.xd_auto.specs.Automaton.{accepts}
 use Rattle.xd_boole.specs.Meaning.{is_state}
 use Rattle.xd_boole.specs.Groups.{AllSides, any_group}
 use Rattle.xd_points.specs.Points.{AddsTexts, rests_accept}
-use Rattle.xd_points.proofs.moves.add_text_meet.Given as goal
+use Rattle.xd_points.proofs.moves.TextMovePatternMove.add_meet.Given as goal
 
 abbrev pub invariant-loop-group : goal.invariant-loop-group
 invariant-loop-group l = record {

@@ -5,7 +5,7 @@ use Rattle.xd_boole.specs.Groups.{label_side}
 use Rattle.xd_boole.specs.Choices.{AllChoices}
 use Rattle.xd_boole.specs.Refusals.{label_refused}
 use Rattle.xd_points.specs.Points.{AddsLabels, parts_accept}
-use Rattle.xd_points.proofs.moves.add_meet.Given as goal
+use Rattle.xd_points.proofs.moves.LabelMovePatternMove.add_meet.Given as goal
 
 abbrev pub invariant-loop-group : goal.invariant-loop-group
 invariant-loop-group l = record {

@@ -11,11 +11,11 @@ use Rattle.xd_boole.proofs.DifferenceLemmas.{right_more}
 use Rattle.xd_boole.proofs.Lists.{all_step, any_walked}
 use Rattle.xd_points.specs.declared.moves.Rests.{Rests}
 use Rattle.xd_points.specs.Meaning.{PointView}
-use Rattle.xd_points.specs.Points.{TextLeads, any_text_before, rests_accept, text_means}
+use Rattle.xd_points.specs.Points.{rests_accept}
 use Rattle.xd_points.proofs.MeetLemmas.{met}
-use Rattle.xd_points.proofs.GrowsLemmas.{adds_like, adds_then, text_stays, texts_more}
+use Rattle.xd_points.proofs.GrowsLemmas.{adds_like, adds_then}
 use Rattle.xd_points.proofs.PatternMoveLemmas.{text_before_same}
-use Rattle.xd_points.proofs.moves.add_text_meet.Goals as goal
+use Rattle.xd_points.proofs.moves.TextMovePatternMove.add_meet.Goals as goal
 
 pub loop-group-preserved : goal.loop-group-preserved
 loop-group-preserved c =
@@ -28,7 +28,7 @@ loop-group-preserved c =
     let x = c.group-item.result in
     let next = all_step (λ (g : Group TextClass State). AllPass (is_state b.taken.auto) g.sides.items) items i x c.loop-group-test.true c.group-item.is c.loop-group.invariant.left in
     record {
-      adds = adds_then (TextLeads two) (text_means a b) a b (text_stays a b two) (texts_more two) _ _ _ _ _ _ _ _ _ c.loop-group.invariant.adds c.in_ok-add_text_group.ensures
+      adds = adds_then c.loop-group.invariant.adds c.in_ok-add_text_group.ensures
           (λ q. right_more (group_refuses class_has (λ (s : State). accepts b.taken.auto q.rest s) q.characters) items i x (rests_accept a b q.rest rests) c.loop-group-test.true c.group-item.is);
       left = next.1;
     }
@@ -47,7 +47,7 @@ returns c =
     let pattern_is : c.of.inside.pattern ≡ pattern = ap (λ (p : PointView). p.pattern) c.of.view_is in
     let class : TextClass = c.in-Some.words in
     let part : IsPart true c.args.one.now.words c.args.two.now.words (Some class) = subst (λ (o : Option TextClass). IsPart true c.args.one.now.words c.args.two.now.words o) c.in-Some.is c.in_ok-words.ensures.part in
-    adds_like (TextLeads two) (text_means a b) a b (text_stays a b two) (texts_more two) c.args.points.now c.loop-group.points c.args.texts.now.items c.loop-group.texts.items _ _ c.loop-group.invariant.adds
+    adds_like c.loop-group.invariant.adds
     (λ q.
     ap (λ w. rests_accept a b q.rest parts && w)
     (any_walked (group_refuses class_has (λ (s : State). accepts b.taken.auto q.rest s) q.characters) items c.loop-group.group-index c.loop-group-test.false ∙ ap (any_group class_has (λ (s : State). accepts b.taken.auto q.rest s) q.characters) c.deref-group-items.ensures.value
@@ -55,8 +55,8 @@ returns c =
     ∙ ap (λ (rs : List State). class_has class q.characters && not (any_accepts b.taken.auto rs (text_of q) || list_any (text_takes b.taken.auto q) (take c.args.place (moves_at b.taken.auto c.of.inside.pattern).texts))) rights_are
     ∙ ap (λ (s : State). class_has class q.characters && not (any_accepts b.taken.auto rights (text_of q) || list_any (text_takes b.taken.auto q) (take c.args.place (moves_at b.taken.auto s).texts))) pattern_is
     ∙ ap (λ w. class_has class q.characters && not (any_accepts b.taken.auto rights (text_of q) || w)) (text_before_same a b c.requires.patterns pattern c.args.place q)
-    ∙ ap (λ w. w && not (any_accepts b.taken.auto rights (text_of q) || any_text_before b.auto pattern c.args.place q)) (part q.characters))
-    ∙ met (class_has c.args.one.now.words q.characters) (class_has c.args.two.now.words q.characters) (accepts a q.rest one) (accepts b.auto q.rest two) (not (any_accepts b.taken.auto rights (text_of q) || any_text_before b.auto pattern c.args.place q)))
+    ∙ ap (λ w. w && not (any_accepts b.taken.auto rights (text_of q) || list_any (text_takes b.auto q) (take c.args.place (moves_at b.auto pattern).texts))) (part q.characters))
+    ∙ met (class_has c.args.one.now.words q.characters) (class_has c.args.two.now.words q.characters) (accepts a q.rest one) (accepts b.auto q.rest two) (not (any_accepts b.taken.auto rights (text_of q) || list_any (text_takes b.auto q) (take c.args.place (moves_at b.auto pattern).texts))))
 
 pub text_groups_before-requires-clause-own : goal.text_groups_before-requires-clause-own
 text_groups_before-requires-clause-own c =
