@@ -17,11 +17,11 @@ use std::io::Write;
 use xd_auto::{Auto, State};
 use xd_calls_lines::{Call, CallError, show_answer, show_class, show_words};
 use xd_calls_programs::{state_of, type_of};
-use xd_continuations::meaning_of_any;
+use xd_continuations::{TypeBodies, meaning_of_any};
 use xd_doc::Store;
 use xd_empty::inhabitant;
 use xd_heads::{Cells, Head, HeadKind, HeadLister, compile_type, heads};
-use xd_moves::{Continuations, Themselves, TypeBodies, content, expand};
+use xd_moves::{Continuations, Sources, Themselves, content, expand};
 use xd_sound::{KnownTypes, SoundProgram};
 use xd_syntax::{Program, TypeId, Types};
 use xd_type_text::type_text;
@@ -135,16 +135,13 @@ fn count_moves(
     types.see_table();
     let mut cells = Continuations::new(alloc);
     let number = content(types, id, &mut cells, &Themselves)?;
-    let found = expand(
-        alloc,
+    let sources = Sources {
         types,
-        program.type_defs(),
+        defs: program.type_defs(),
         bodies,
         marks,
-        &mut cells,
-        &Themselves,
-        number,
-    )?;
+    };
+    let found = expand(alloc, &sources, &mut cells, &Themselves, number)?;
     Ok(found.len())
 }
 

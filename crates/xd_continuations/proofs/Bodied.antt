@@ -1,5 +1,5 @@
 -- Names stand for what their first definitions do.
-use Rattle.std.proofs.Common.{◌≡◌, ℕ, ◌<◌, Bool, true, false, cond, List, [], ◌∷◌, map, length, Option, None, Some, ap, sym, subst, ◌∙◌}
+use Rattle.std.proofs.Common.{◌≡◌, ℕ, ◌<◌, Bool, true, false, cond, List, [], ◌∷◌, map, length, Option, None, Some, refl, ap, sym, subst, ◌∙◌}
 use Rattle.std.specs.Str.{bytes_eq}
 use Rattle.std.specs.List.{AllByRecursion}
 use Rattle.xd_syntax.specs.Words.{any_word}
@@ -11,8 +11,10 @@ use Rattle.xd_syntax.specs.Program.{TypeDefinition}
 use Rattle.xd_syntax.specs.Kept.{type_definition}
 use Rattle.xd_syntax.specs.SoundTables.{definition_of}
 use Rattle.xd_syntax.specs.declared.types.TypeDef.{TypeDef}
-use Rattle.xd_sound.specs.TypeNames.{body_at, meanings}
+use Rattle.xd_sound.specs.TypeNames.{AreNumbered, body_at, meanings}
 use Rattle.xd_syntax.proofs.PlacedTrees.{unplaced_at}
+use Rattle.xd_continuations.specs.Bodies.{AreBodies, tree_of_body}
+use Rattle.xd_continuations.specs.declared.bodies.TypeBodies.{TypeBodies}
 
 abbrev pair : TypeDefinition → List ℕ × Tree
 pair t = (t.name, unplaced t.body)
@@ -51,3 +53,11 @@ nodes_within types ds any a h w i e = go (bytes_eq any_word w) e
     go : (b : Bool) → cond b (Some any) (body_at (definition_of ds w)) ≡ Some i → i < length types
     go true e = let q : any ≡ i = cc in subst (λ j. j < length types) q h
     go false e = inside types ds a w i e
+
+pub are_bodies : (types : List Row) (ds : List TypeDef) (b : TypeBodies) → AllByRecursion (λ (d : TypeDef). d.body.at < length types) ds → AreNumbered b.names ds → b.any < length types → tree_at types b.any ≡ any_type →
+    AreBodies types ds b
+are_bodies types ds b a n h t = record {
+  numbered = n;
+  right = node_trees types (tree_of_body types) refl (λ i. refl) ds b.any t;
+  within = nodes_within types ds b.any a h;
+}

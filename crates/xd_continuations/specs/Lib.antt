@@ -6,3 +6,4 @@ pub mod Expansion
 pub mod Mirrors
 pub mod Depths
 pub mod Laws
+pub mod Bodies

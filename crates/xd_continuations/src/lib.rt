@@ -5,9 +5,11 @@
 ghost use Rattle.xd_continuations.specs.Laws.{PiecesMean, MeaningsAreOne, MovesAreHeads, MovesContinue, MovesDecide, SoundRecursInTail, FinitelyMany, BoundsStayInSound, BoundsGrow, TasksStand, TasksStep, TasksGive, StatesAccept, ProgramsAreMerged, MovesAreNoDeeper};
 
 mod any;
+mod bodies;
 mod links;
 
 pub use any::meaning_of_any;
+pub use bodies::TypeBodies;
 pub use links::{Internable, Interned, Link};
 
 /// A continuation is the list of the pieces of the type that it means.

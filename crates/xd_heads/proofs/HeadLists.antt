@@ -38,7 +38,8 @@ use Rattle.xd_heads.proofs.AddingMoves.{none_deeper}
 use Rattle.xd_heads.proofs.GrowsTypesLemmas.{grows_then}
 use Rattle.xd_continuations.proofs.GrownTables.{tree_stays, more_rows}
 use Rattle.xd_heads.proofs.Mirrored.{continuation_stays, shallow_before}
-use Rattle.xd_heads.proofs.KeepsStatesLemmas.{bodies_stand, are_merged}
+use Rattle.xd_heads.proofs.KeepsStatesLemmas.{are_merged}
+use Rattle.xd_continuations.proofs.GrownTables.{bodies_stand}
 
 -- ---- one head
 

@@ -18,7 +18,7 @@ use Rattle.xd_auto.specs.declared.auto.State.{State}
 use Rattle.xd_continuations.specs.Continuation.{AreMerged}
 use Rattle.xd_continuations.proofs.IsMergedLemmas.{program_merged}
 use Rattle.xd_continuations.proofs.SoundTail.{recurs_only_in_tail}
-use Rattle.xd_continuations.proofs.FiniteLemmas.{all_same}
+use Rattle.xd_continuations.proofs.GrownTables.{bodies_stand}
 use Rattle.xd_moves.specs.Found.{AreDecidingMarks, AreOfTypes}
 use Rattle.xd_heads.specs.States.{number_at}
 use Rattle.xd_heads.specs.Compiled.{AreAllCompiled}
@@ -27,16 +27,6 @@ use Rattle.xd_heads.specs.Mirrors.{continuation_of, KeepsStates, Mirrors}
 use Rattle.xd_moves.proofs.PutsTasksLemmas.{continuation_kept}
 use Rattle.xd_heads.proofs.StateLemmas.{number_below, number_front, number_within}
 use Rattle.xd_heads.proofs.Mirrored.{type_is, type_of_number, types_stay, to_mirrors}
-
--- types and definitions that are those of the program
-pub along : (p : ProgramTable) (types : List Row) (ds : List TypeDef) (Q : List Row → List TypeDef → Type 0) → types ≡ p.types → ds ≡ p.type_defs → Q p.types p.type_defs → Q types ds
-along p types ds Q e f q = subst (λ d. Q types d) (sym f) (subst (λ t. Q t p.type_defs) (sym e) q)
-
-pub back_along : (p : ProgramTable) (types : List Row) (ds : List TypeDef) (Q : List Row → List TypeDef → Type 0) → types ≡ p.types → ds ≡ p.type_defs → Q types ds → Q p.types p.type_defs
-back_along p types ds Q e f q = subst (λ d. Q p.types d) f (subst (λ t. Q t ds) e q)
-
-pub bodies_stand : (p : ProgramTable) → ProgramStands p → AllByRecursion (λ (d : TypeDef). d.body.at < length p.types) p.type_defs
-bodies_stand p s = all_same (TypeDefStands p.types) (λ d. d.body.at < length p.types) p.type_defs (λ d t. t.body) s.type_defs
 
 pub are_merged : (p : ProgramTable) → ProgramStands p → AreBuilt false p.types → AreMerged (names_of (program_tree p))
 are_merged p s b = program_merged p b (bodies_stand p s)

@@ -11,10 +11,11 @@ ghost use Rattle.xd_meaning.specs.Heads.{element_in, pieces, text_in, all_texts}
 ghost use Rattle.xd_syntax.specs.Tree.{seq_of};
 ghost use Rattle.xd_syntax.specs.declared.types.TypeDef.{TypeDef};
 ghost use Rattle.xd_heads.specs.Compiled.{AddsMoves, AreAllCompiled, AreCompiled, GetsState, Spares, SparesOthers, continuations_of};
+ghost use Rattle.xd_continuations.specs.Bodies.{AreBodies};
 ghost use Rattle.xd_continuations.specs.Continuation.{AreMerged, IsMerged, moves};
 ghost use Rattle.xd_syntax.specs.Table.{tree_at};
 ghost use Rattle.xd_sound.specs.TypeNames.{meanings};
-ghost use Rattle.xd_moves.specs.Found.{AreBodies, AreBounded, AreDecidingMarks, AreOfTypes, IsFound, continuation, move_at};
+ghost use Rattle.xd_moves.specs.Found.{AreBounded, AreDecidingMarks, AreOfTypes, IsFound, continuation, move_at};
 ghost use Rattle.xd_heads.specs.States.{nodes_in};
 ghost use Rattle.xd_continuations.specs.TailUses.{RecursOnlyInTail};
 
@@ -22,26 +23,28 @@ use crate::states::States;
 use std::alloc::Global;
 use xd_auto::{Auto, State};
 use xd_doc::{Class, NoMemory, Words};
-use xd_moves::{Continuations, FirstUses, Found, TypeBodies, content, expand, is_empty};
-use xd_syntax::{TypeDef, TypeForm, TypeId, Types};
+use xd_moves::{Continuations, FirstUses, Found, Sources, content, expand, is_empty};
+use xd_syntax::{TypeForm, TypeId};
+
+/// Continuations, and those of them that have states.
+#[derive(Drop)]
+pub(crate) struct Made {
+    pub cells: Continuations,
+    pub uses: FirstUses,
+    pub states: States,
+}
 
 /// Whether a continuation can be empty.
-fn is_last(
-    types: &Types,
-    defs: &[TypeDef],
-    marks: &[bool],
-    cells: &Continuations,
-    number: usize,
-) -> bool
-    requires marks { AreDecidingMarks types.now defs.now marks.now }
-    requires nodes { AreOfTypes types.now cells.now }
+fn is_last(sources: &Sources<'_>, cells: &Continuations, number: usize) -> bool
+    requires marks { AreDecidingMarks sources.now.types.now sources.now.defs.now sources.now.marks.now }
+    requires nodes { AreOfTypes sources.now.types.now cells.now }
     requires number { number ≤ length cells.now }
-    ensures { result ≡ can_be_empty (meanings types.now defs.now) (seq_of (continuation types.now cells.now number)) }
+    ensures { result ≡ can_be_empty (meanings sources.now.types.now sources.now.defs.now) (seq_of (continuation sources.now.types.now cells.now number)) }
 {
     let mut at = number;
     while at > 0 {
         let cell = cells.link(at);
-        if !is_empty(types, defs, marks, cell.item) {
+        if !is_empty(sources, cell.item) {
             return false;
         }
         at = cell.behind;
@@ -51,19 +54,17 @@ fn is_last(
 
 /// The state of a continuation, which is made if there is none.
 fn state_of(
-    types: &Types,
-    defs: &[TypeDef],
-    marks: &[bool],
+    sources: &Sources<'_>,
     cells: &Continuations,
     number: usize,
     states: &mut States,
     auto: &mut Auto,
 ) -> Result<State, NoMemory>
-    requires marks { AreDecidingMarks types.now defs.now marks.now }
-    requires nodes { AreOfTypes types.now cells.now }
+    requires marks { AreDecidingMarks sources.now.types.now sources.now.defs.now sources.now.marks.now }
+    requires nodes { AreOfTypes sources.now.types.now cells.now }
     requires number { number ≤ length cells.now }
     requires aligned { length auto.old ≡ length states.old }
-    ensures got { IfOk result (GetsState types.now defs.now cells.now states.old states.new auto.old auto.new number) }
+    ensures got { IfOk result (GetsState sources.now.types.now sources.now.defs.now cells.now states.old states.new auto.old auto.new number) }
     ensures aligned { OnOk result (length auto.new ≡ length states.new) }
     ensures within { IfOk result (λ state. state_number state < length states.new) }
     ensures spares { Spares (length auto.old) auto.old auto.new }
@@ -71,37 +72,33 @@ fn state_of(
     if let Some(at) = states.find(number) {
         return Ok(auto.state(at));
     }
-    let state = auto.add_state(is_last(types, defs, marks, cells, number))?;
+    let state = auto.add_state(is_last(sources, cells, number))?;
     states.add(number)?;
     Ok(state)
 }
 
 /// A move on an element: its class, its content, and the number of the continuation after it.
 fn add_label(
-    types: &Types,
-    defs: &[TypeDef],
-    marks: &[bool],
+    sources: &Sources<'_>,
     class: &Class,
     part: TypeId,
     rest: usize,
     from: State,
-    cells: &mut Continuations,
-    uses: &FirstUses,
-    states: &mut States,
+    made: &mut Made,
     auto: &mut Auto,
 ) -> Result<(), NoMemory>
-    requires marks { AreDecidingMarks types.now defs.now marks.now }
-    requires nodes { AreOfTypes types.now cells.old }
-    requires part { part.at < length types.now }
-    requires rest { rest ≤ length cells.old }
-    requires from { state_number from < length states.old }
-    requires aligned { length auto.old ≡ length states.old }
-    ensures moves { OnOk result (AddsMoves types.now defs.now cells.old cells.new states.old states.new auto.old auto.new from (record { kind = element_in class.now; content = pieces (tree_at types.now part.at); rest = continuation types.now cells.old rest } ∷ [])) }
+    requires marks { AreDecidingMarks sources.now.types.now sources.now.defs.now sources.now.marks.now }
+    requires nodes { AreOfTypes sources.now.types.now made.old.cells }
+    requires part { part.at < length sources.now.types.now }
+    requires rest { rest ≤ length made.old.cells }
+    requires from { state_number from < length made.old.states }
+    requires aligned { length auto.old ≡ length made.old.states }
+    ensures moves { OnOk result (AddsMoves sources.now.types.now sources.now.defs.now made.old.cells made.new.cells made.old.states made.new.states auto.old auto.new from (record { kind = element_in class.now; content = pieces (tree_at sources.now.types.now part.at); rest = continuation sources.now.types.now made.old.cells rest } ∷ [])) }
     ensures spares { SparesOthers from auto.old auto.new }
 {
-    let inside = content(types, part, cells, uses)?;
-    let content = state_of(types, defs, marks, cells, inside, states, auto)?;
-    let after = state_of(types, defs, marks, cells, rest, states, auto)?;
+    let inside = content(sources.types, part, &mut made.cells, &made.uses)?;
+    let content = state_of(sources, &made.cells, inside, &mut made.states, auto)?;
+    let after = state_of(sources, &made.cells, rest, &mut made.states, auto)?;
     let copy = class.share()?;
     auto.add_label_move(from, copy, content, after)?;
     Ok(())
@@ -117,9 +114,7 @@ pub(crate) fn every_text(alloc: Global) -> Result<Words, NoMemory>
 
 /// A move on a text: its class, and the number of the continuation after it.
 fn add_text(
-    types: &Types,
-    defs: &[TypeDef],
-    marks: &[bool],
+    sources: &Sources<'_>,
     words: Words,
     rest: usize,
     from: State,
@@ -127,15 +122,15 @@ fn add_text(
     states: &mut States,
     auto: &mut Auto,
 ) -> Result<(), NoMemory>
-    requires marks { AreDecidingMarks types.now defs.now marks.now }
-    requires nodes { AreOfTypes types.now cells.now }
+    requires marks { AreDecidingMarks sources.now.types.now sources.now.defs.now sources.now.marks.now }
+    requires nodes { AreOfTypes sources.now.types.now cells.now }
     requires rest { rest ≤ length cells.now }
     requires from { state_number from < length states.old }
     requires aligned { length auto.old ≡ length states.old }
-    ensures moves { OnOk result (AddsMoves types.now defs.now cells.now cells.now states.old states.new auto.old auto.new from (record { kind = text_in words; content = []; rest = continuation types.now cells.now rest } ∷ [])) }
+    ensures moves { OnOk result (AddsMoves sources.now.types.now sources.now.defs.now cells.now cells.now states.old states.new auto.old auto.new from (record { kind = text_in words; content = []; rest = continuation sources.now.types.now cells.now rest } ∷ [])) }
     ensures spares { SparesOthers from auto.old auto.new }
 {
-    let after = state_of(types, defs, marks, cells, rest, states, auto)?;
+    let after = state_of(sources, cells, rest, states, auto)?;
     auto.add_text_move(from, words, after)?;
     Ok(())
 }
@@ -143,39 +138,46 @@ fn add_text(
 /// A move that was found is added to a state.
 fn add_move(
     alloc: Global,
-    types: &Types,
-    defs: &[TypeDef],
-    marks: &[bool],
+    sources: &Sources<'_>,
     found: Found,
     from: State,
-    cells: &mut Continuations,
-    uses: &FirstUses,
-    states: &mut States,
+    made: &mut Made,
     auto: &mut Auto,
 ) -> Result<(), NoMemory>
-    requires marks { AreDecidingMarks types.now defs.now marks.now }
-    requires nodes { AreOfTypes types.now cells.old }
-    requires found { IsFound types.now cells.old found }
-    requires from { state_number from < length states.old }
-    requires aligned { length auto.old ≡ length states.old }
-    ensures moves { OnOk result (AddsMoves types.now defs.now cells.old cells.new states.old states.new auto.old auto.new from (move_at types.now cells.old found ∷ [])) }
+    requires marks { AreDecidingMarks sources.now.types.now sources.now.defs.now sources.now.marks.now }
+    requires nodes { AreOfTypes sources.now.types.now made.old.cells }
+    requires found { IsFound sources.now.types.now made.old.cells found }
+    requires from { state_number from < length made.old.states }
+    requires aligned { length auto.old ≡ length made.old.states }
+    ensures moves { OnOk result (AddsMoves sources.now.types.now sources.now.defs.now made.old.cells made.new.cells made.old.states made.new.states auto.old auto.new from (move_at sources.now.types.now made.old.cells found ∷ [])) }
     ensures spares { SparesOthers from auto.old auto.new }
 {
-    let node = types.node(TypeId::of(found.node));
+    let node = sources.types.node(TypeId::of(found.node));
+    let rest = found.rest;
     match node.form() {
-        TypeForm::Elem(class, part) => add_label(
-            types, defs, marks, class, *part, found.rest, from, cells, uses, states, auto,
-        ),
+        TypeForm::Elem(class, part) => add_label(sources, class, *part, rest, from, made, auto),
         TypeForm::Words(words) => {
             let copy = words.share()?;
             add_text(
-                types, defs, marks, copy, found.rest, from, cells, states, auto,
+                sources,
+                copy,
+                rest,
+                from,
+                &made.cells,
+                &mut made.states,
+                auto,
             )
         }
         _ => {
             let all = every_text(alloc)?;
             add_text(
-                types, defs, marks, all, found.rest, from, cells, states, auto,
+                sources,
+                all,
+                rest,
+                from,
+                &made.cells,
+                &mut made.states,
+                auto,
             )
         }
     }
@@ -184,32 +186,25 @@ fn add_move(
 /// All moves of a continuation are added to a state, in order.
 fn add_moves(
     alloc: Global,
-    types: &Types,
-    defs: &[TypeDef],
-    bodies: &TypeBodies,
-    marks: &[bool],
+    sources: &Sources<'_>,
     number: usize,
     from: State,
-    cells: &mut Continuations,
-    uses: &FirstUses,
-    states: &mut States,
+    made: &mut Made,
     auto: &mut Auto,
 ) -> Result<(), NoMemory>
-    requires guarded { Guarded (meanings types.now defs.now) }
-    requires bodies { AreBodies types.now defs.now bodies.now }
-    requires marks { AreDecidingMarks types.now defs.now marks.now }
-    requires nodes { AreOfTypes types.now cells.old }
-    requires number { number ≤ length cells.old }
-    requires from { state_number from < length states.old }
-    requires aligned { length auto.old ≡ length states.old }
-    ensures moves { OnOk result (AddsMoves types.now defs.now cells.old cells.new states.old states.new auto.old auto.new from (moves (meanings types.now defs.now) (continuation types.now cells.old number))) }
+    requires guarded { Guarded (meanings sources.now.types.now sources.now.defs.now) }
+    requires bodies { AreBodies sources.now.types.now sources.now.defs.now sources.now.bodies.now }
+    requires marks { AreDecidingMarks sources.now.types.now sources.now.defs.now sources.now.marks.now }
+    requires nodes { AreOfTypes sources.now.types.now made.old.cells }
+    requires number { number ≤ length made.old.cells }
+    requires from { state_number from < length made.old.states }
+    requires aligned { length auto.old ≡ length made.old.states }
+    ensures moves { OnOk result (AddsMoves sources.now.types.now sources.now.defs.now made.old.cells made.new.cells made.old.states made.new.states auto.old auto.new from (moves (meanings sources.now.types.now sources.now.defs.now) (continuation sources.now.types.now made.old.cells number))) }
     ensures spares { SparesOthers from auto.old auto.new }
 {
-    let found = expand(alloc, types, defs, bodies, marks, cells, uses, number)?;
+    let found = expand(alloc, sources, &mut made.cells, &made.uses, number)?;
     for one in &found {
-        add_move(
-            alloc, types, defs, marks, *one, from, cells, uses, states, auto,
-        )?;
+        add_move(alloc, sources, *one, from, made, auto)?;
     }
     Ok(())
 }
@@ -219,37 +214,30 @@ fn add_moves(
 /// In a sound program this ends, since the continuations are finitely many.
 pub(crate) fn compile(
     alloc: Global,
-    types: &Types,
-    defs: &[TypeDef],
-    bodies: &TypeBodies,
-    marks: &[bool],
+    sources: &Sources<'_>,
     first: usize,
-    cells: &mut Continuations,
-    uses: &FirstUses,
-    states: &mut States,
+    made: &mut Made,
     auto: &mut Auto,
 ) -> Result<(), NoMemory>
-    requires guarded { Guarded (meanings types.now defs.now) }
-    requires tail { RecursOnlyInTail (meanings types.now defs.now) }
-    requires merged { AreMerged (meanings types.now defs.now) }
-    requires stand { AllByRecursion (λ (d : TypeDef). d.body.at < length types.now) defs.now }
-    requires bodies { AreBodies types.now defs.now bodies.now }
-    requires marks { AreDecidingMarks types.now defs.now marks.now }
-    requires nodes { AreOfTypes types.now cells.old }
-    requires first { first ≤ length states.old }
-    requires compiled { AreCompiled types.now defs.now cells.old states.old auto.old first [] }
-    requires bounded { AreBounded (meanings types.now defs.now) (nodes_in types.now) types.now cells.old }
-    ensures compiled { OnOk result (AreAllCompiled types.now defs.now cells.old cells.new states.old states.new auto.new) }
+    requires guarded { Guarded (meanings sources.now.types.now sources.now.defs.now) }
+    requires tail { RecursOnlyInTail (meanings sources.now.types.now sources.now.defs.now) }
+    requires merged { AreMerged (meanings sources.now.types.now sources.now.defs.now) }
+    requires stand { AllByRecursion (λ (d : TypeDef). d.body.at < length sources.now.types.now) sources.now.defs.now }
+    requires bodies { AreBodies sources.now.types.now sources.now.defs.now sources.now.bodies.now }
+    requires marks { AreDecidingMarks sources.now.types.now sources.now.defs.now sources.now.marks.now }
+    requires nodes { AreOfTypes sources.now.types.now made.old.cells }
+    requires first { first ≤ length made.old.states }
+    requires compiled { AreCompiled sources.now.types.now sources.now.defs.now made.old.cells made.old.states auto.old first [] }
+    requires bounded { AreBounded (meanings sources.now.types.now sources.now.defs.now) (nodes_in sources.now.types.now) sources.now.types.now made.old.cells }
+    ensures compiled { OnOk result (AreAllCompiled sources.now.types.now sources.now.defs.now made.old.cells made.new.cells made.old.states made.new.states auto.new) }
     ensures spares { Spares first auto.old auto.new }
 {
     let mut done = first;
-    while let Some(number) = states.continuation(done) {
-        let _count = cells.len();
-        let _states = states.len();
+    while let Some(number) = made.states.continuation(done) {
+        let _count = made.cells.len();
+        let _states = made.states.len();
         let from = auto.state(done);
-        add_moves(
-            alloc, types, defs, bodies, marks, number, from, cells, uses, states, auto,
-        )?;
+        add_moves(alloc, sources, number, from, made, auto)?;
         done += 1;
     }
     Ok(())
@@ -260,37 +248,30 @@ pub(crate) fn compile(
 /// The automaton's states are those of continuations, and each has its moves already.
 pub(crate) fn compile_node(
     alloc: Global,
-    types: &Types,
-    defs: &[TypeDef],
-    bodies: &TypeBodies,
-    marks: &[bool],
+    sources: &Sources<'_>,
     part: TypeId,
-    cells: &mut Continuations,
-    uses: &FirstUses,
-    states: &mut States,
+    made: &mut Made,
     auto: &mut Auto,
 ) -> Result<State, NoMemory>
-    requires guarded { Guarded (meanings types.now defs.now) }
-    requires tail { RecursOnlyInTail (meanings types.now defs.now) }
-    requires merged { AreMerged (meanings types.now defs.now) }
-    requires stand { AllByRecursion (λ (d : TypeDef). d.body.at < length types.now) defs.now }
-    requires part { part.at < length types.now }
-    requires merged_part { IsMerged (tree_at types.now part.at) }
-    requires bodies { AreBodies types.now defs.now bodies.now }
-    requires marks { AreDecidingMarks types.now defs.now marks.now }
-    requires nodes { AreOfTypes types.now cells.old }
-    requires compiled { AreCompiled types.now defs.now cells.old states.old auto.old (length states.old) [] }
-    requires bounded { AreBounded (meanings types.now defs.now) (nodes_in types.now) types.now cells.old }
-    ensures accepts { IfOk result (λ state. (d : Document) → (accepts auto.new d state ≡ true) ↔ Fits (meanings types.now defs.now) (tree_at types.now part.at) d) }
-    ensures continuation { IfOk result (λ state. continuations_of types.now cells.new states.new state ≡ Some (pieces (tree_at types.now part.at))) }
-    ensures compiled { OnOk result (AreAllCompiled types.now defs.now cells.old cells.new states.old states.new auto.new) }
+    requires guarded { Guarded (meanings sources.now.types.now sources.now.defs.now) }
+    requires tail { RecursOnlyInTail (meanings sources.now.types.now sources.now.defs.now) }
+    requires merged { AreMerged (meanings sources.now.types.now sources.now.defs.now) }
+    requires stand { AllByRecursion (λ (d : TypeDef). d.body.at < length sources.now.types.now) sources.now.defs.now }
+    requires part { part.at < length sources.now.types.now }
+    requires merged_part { IsMerged (tree_at sources.now.types.now part.at) }
+    requires bodies { AreBodies sources.now.types.now sources.now.defs.now sources.now.bodies.now }
+    requires marks { AreDecidingMarks sources.now.types.now sources.now.defs.now sources.now.marks.now }
+    requires nodes { AreOfTypes sources.now.types.now made.old.cells }
+    requires compiled { AreCompiled sources.now.types.now sources.now.defs.now made.old.cells made.old.states auto.old (length made.old.states) [] }
+    requires bounded { AreBounded (meanings sources.now.types.now sources.now.defs.now) (nodes_in sources.now.types.now) sources.now.types.now made.old.cells }
+    ensures accepts { IfOk result (λ state. (d : Document) → (accepts auto.new d state ≡ true) ↔ Fits (meanings sources.now.types.now sources.now.defs.now) (tree_at sources.now.types.now part.at) d) }
+    ensures continuation { IfOk result (λ state. continuations_of sources.now.types.now made.new.cells made.new.states state ≡ Some (pieces (tree_at sources.now.types.now part.at))) }
+    ensures compiled { OnOk result (AreAllCompiled sources.now.types.now sources.now.defs.now made.old.cells made.new.cells made.old.states made.new.states auto.new) }
     ensures spares { Spares (length auto.old) auto.old auto.new }
 {
-    let first = states.len();
-    let inside = content(types, part, cells, uses)?;
-    let state = state_of(types, defs, marks, cells, inside, states, auto)?;
-    compile(
-        alloc, types, defs, bodies, marks, first, cells, uses, states, auto,
-    )?;
+    let first = made.states.len();
+    let inside = content(sources.types, part, &mut made.cells, &made.uses)?;
+    let state = state_of(sources, &made.cells, inside, &mut made.states, auto)?;
+    compile(alloc, sources, first, made, auto)?;
     Ok(state)
 }

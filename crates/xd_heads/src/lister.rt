@@ -16,9 +16,9 @@ ghost use Rattle.xd_heads.specs.Numbered.{AreNodeNumbers, IsHeadIn, KeepsNumbers
 
 use crate::listing::{HeadKind, find_moves, kind_of};
 use std::alloc::Global;
-use xd_continuations::meaning_of_any;
+use xd_continuations::{TypeBodies, meaning_of_any};
 use xd_doc::NoMemory;
-use xd_moves::{Continuations, FirstPieces, Found, TypeBodies, content};
+use xd_moves::{Continuations, FirstPieces, Found, content};
 use xd_sound::{KnownTypes, SoundProgram};
 use xd_syntax::{Program, TypeId, Types};
 
@@ -151,7 +151,6 @@ impl HeadLister {
             program,
             &self.bodies,
             &self.empty_marks,
-            id,
             number,
             &mut self.cells,
             &self.firsts,

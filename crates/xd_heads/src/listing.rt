@@ -16,6 +16,7 @@ ghost use Rattle.xd_syntax.specs.Tree.{any_type, seq_of};
 ghost use Rattle.xd_sound.specs.TypeNames.{AreNumbered};
 ghost use Rattle.xd_syntax.specs.TypeText.{depth};
 ghost use Rattle.xd_syntax.specs.Types.{BelongsTo, tree};
+ghost use Rattle.xd_syntax.specs.declared.types.TypeId.{TypeId};
 ghost use Rattle.xd_moves.specs.Cells.{StayChosen};
 ghost use Rattle.xd_moves.specs.Found.{AreOfTypes, continuation, move_at};
 ghost use Rattle.xd_heads.specs.Growing.{GrowsTypes};
@@ -25,9 +26,9 @@ use crate::compile::every_text;
 use crate::typed::continuation_type;
 use std::alloc::Global;
 use std::collections::HashMap;
-use xd_continuations::meaning_of_any;
+use xd_continuations::{TypeBodies, meaning_of_any};
 use xd_doc::{Class, NoMemory, Words};
-use xd_moves::{Continuations, Found, StandIns, Themselves, TypeBodies, content, expand};
+use xd_moves::{Continuations, Found, Sources, StandIns, Themselves, content, expand};
 use xd_sound::{KnownTypes, SoundProgram};
 use xd_syntax::{Program, TypeForm, TypeId, Types};
 
@@ -104,7 +105,6 @@ fn find_heads(
         program,
         bodies,
         marks,
-        id,
         number,
         &mut cells,
         &Themselves,
@@ -112,13 +112,12 @@ fn find_heads(
     Ok((cells, found))
 }
 
-/// Those of a type whose pieces are the continuation with this number.
+/// Those of each type whose pieces are the continuation with this number.
 pub(crate) fn find_moves<S: StandIns>(
     alloc: Global,
     program: &Program,
     bodies: &TypeBodies,
     marks: &[bool],
-    id: TypeId,
     number: usize,
     cells: &mut Continuations,
     stand_ins: &S,
@@ -128,26 +127,22 @@ pub(crate) fn find_moves<S: StandIns>(
     requires any { bodies.now.any < length program.now.types }
     requires any_type { tree_at program.now.types bodies.now.any ≡ any_type }
     requires marks { AreEmptyMarks program.now.types program.now.type_defs marks.now }
-    requires belongs { BelongsTo program.now.types id }
     requires nodes { AreOfTypes program.now.types cells.old }
     requires number { number ≤ length cells.old }
-    requires pieces { continuation program.now.types cells.old number ≡ pieces (tree program.now.types id) }
     requires serve { S.serve program.now.types stand_ins.now }
-    ensures found { IfOk result (λ found. AreHeadsFound program.now (tree program.now.types id) cells.old cells.new found.items) }
+    ensures found { IfOk result (λ found. (id : TypeId) → BelongsTo program.now.types id → continuation program.now.types cells.old number ≡ pieces (tree program.now.types id) →
+        AreHeadsFound program.now (tree program.now.types id) cells.old cells.new found.items) }
     ensures chosen { OnOk result (StayChosen (S.chosen program.now.types stand_ins.now) cells.old cells.new) }
 {
     let types = program.types();
     types.see_table();
-    let found = expand(
-        alloc,
+    let sources = Sources {
         types,
-        program.type_defs(),
+        defs: program.type_defs(),
         bodies,
         marks,
-        cells,
-        stand_ins,
-        number,
-    )?;
+    };
+    let found = expand(alloc, &sources, cells, stand_ins, number)?;
     Ok(found)
 }
 

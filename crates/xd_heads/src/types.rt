@@ -18,15 +18,15 @@ ghost use Rattle.xd_heads.specs.Compiled.{Spares};
 ghost use Rattle.xd_heads.specs.CellsView.{CellsView, no_cells};
 ghost use Rattle.xd_heads.specs.Mirrors.{IsTypeState, KeepsStates, Mirrors, MirrorsStay, continuation_of};
 
-use crate::compile::compile_node;
+use crate::compile::{Made, compile_node};
 use crate::states::States;
 use crate::typed::continuation_type;
 use std::alloc::Global;
 use std::marker::Model;
 use xd_auto::{Auto, State};
-use xd_continuations::meaning_of_any;
+use xd_continuations::{TypeBodies, meaning_of_any};
 use xd_doc::NoMemory;
-use xd_moves::{Continuations, FirstUses, TypeBodies};
+use xd_moves::{Continuations, FirstUses, Sources};
 use xd_sound::{KnownTypes, SoundProgram};
 use xd_syntax::{Program, TypeId};
 
@@ -36,9 +36,7 @@ use xd_syntax::{Program, TypeId};
 /// piece and an older continuation, so that recursive types share states.
 #[derive(Drop)]
 pub struct Cells {
-    continuations: Continuations,
-    uses: FirstUses,
-    states: States,
+    made: Made,
     alloc: Global,
 }
 
@@ -47,7 +45,7 @@ impl Model for Cells {
 
     ghost Value = { CellsView };
 
-    ghost view = { λ c. record { cells = c.continuations; states = c.states } };
+    ghost view = { λ c. record { cells = c.made.cells; states = c.made.states } };
 }
 
 impl Cells {
@@ -56,12 +54,12 @@ impl Cells {
         ensures none { result ≡ no_cells }
         ensures mirrors { (p : ProgramTable) → Mirrors p result [] }
     {
-        Self {
-            continuations: Continuations::new(alloc),
+        let made = Made {
+            cells: Continuations::new(alloc),
             uses: FirstUses::new(alloc),
             states: States::new(alloc),
-            alloc,
-        }
+        };
+        Self { made, alloc }
     }
 
     /// The continuation of a state, as a type of the program; types are added to it for that, and
@@ -77,9 +75,9 @@ impl Cells {
         ensures same { program_tree sound.new ≡ program_tree sound.old }
         ensures shallow { IsShallow sound.old.types → IsShallow sound.new.types }
     {
-        match self.states.continuation(state.number()) {
+        match self.made.states.continuation(state.number()) {
             Some(number) => {
-                let id = continuation_type(self.alloc, sound, &self.continuations, number)?;
+                let id = continuation_type(self.alloc, sound, &self.made.cells, number)?;
                 Ok(id)
             }
             None => unreachable!(),
@@ -166,19 +164,14 @@ fn compile_in(
 {
     let types = program.types();
     types.see_table();
-    cells.uses.cover(types)?;
-    let state = compile_node(
-        alloc,
+    cells.made.uses.cover(types)?;
+    let sources = Sources {
         types,
-        program.type_defs(),
+        defs: program.type_defs(),
         bodies,
         marks,
-        id,
-        &mut cells.continuations,
-        &cells.uses,
-        &mut cells.states,
-        auto,
-    )?;
+    };
+    let state = compile_node(alloc, &sources, id, &mut cells.made, auto)?;
     Ok(state)
 }
 

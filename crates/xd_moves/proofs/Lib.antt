@@ -5,4 +5,3 @@ pub mod CellLemmas
 pub mod PutsTasksLemmas
 pub mod FindsLemmas
 pub mod WorkedTaskLemmas
-pub mod Bodied

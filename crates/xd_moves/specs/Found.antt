@@ -1,9 +1,9 @@
 -- The types, continuations and moves that pieces, cells and tasks stand for.
-use Rattle.std.specs.Prelude.{◌≡◌, ℕ, ◌<◌, ◌≤◌, Bool, true, false, cond, List, [], ◌∷◌, ◌++◌, map, reverse, length, get_or, Option, Some, None}
+use Rattle.std.specs.Prelude.{◌≡◌, ℕ, ◌<◌, ◌≤◌, Bool, true, false, cond, List, [], ◌∷◌, ◌++◌, map, reverse, length, get_or}
 use Rattle.std.specs.List.{AllByRecursion}
 use Rattle.xd_syntax.specs.Tree.{Tree, Words, Elem, Star, Plus, Definitions, body}
 use Rattle.xd_syntax.specs.Table.{Row, Form, empty_form, text_form, words_form, name_form, elem_form, seq_form, alt_form, star_form, plus_form, opt_form, val_form, tree_at}
-use Rattle.xd_sound.specs.TypeNames.{AreNumbered, meanings}
+use Rattle.xd_sound.specs.TypeNames.{meanings}
 use Rattle.xd_meaning.specs.Heads.{element_in, text_in, pieces, all_texts}
 use Rattle.xd_meaning.specs.CanBeEmpty.{can_be_empty}
 use Rattle.xd_syntax.specs.declared.types.TypeDef.{TypeDef}
@@ -13,8 +13,6 @@ use Rattle.xd_continuations.specs.TailUses.{RecursOnlyInTail}
 use Rattle.xd_continuations.specs.Bounds.{NoneLarger, IsBounded}
 use Rattle.xd_continuations.specs.Chains.{list_at, KeepsLinks}
 use Rattle.xd_moves.specs.Pieces.{piece_tree}
-use Rattle.xd_moves.specs.Bodies.{node_of}
-use Rattle.xd_moves.specs.declared.bodies.TypeBodies.{TypeBodies}
 use Rattle.xd_moves.specs.Cells.{Cell}
 use Rattle.xd_moves.specs.declared.expansion.Found.{Found}
 
@@ -88,16 +86,6 @@ pub record IsWorkedOff (types : List Row) (ds : List TypeDef) (old new : List Ce
 pub record AreDecidingMarks (types : List Row) (ds : List TypeDef) (marks : List Bool) : Type 0 where
   pub count : length marks ≡ length types
   pub right : (i : ℕ) → i < length types → get_or marks i false ≡ can_be_empty (meanings types ds) (tree_at types i)
-
-abbrev pub tree_of_body : List Row → Option ℕ → Option Tree
-tree_of_body types None = None
-tree_of_body types (Some i) = Some (tree_at types i)
-
--- the node that a name stands for
-pub record AreBodies (types : List Row) (ds : List TypeDef) (bodies : TypeBodies) : Type 0 where
-  pub numbered : AreNumbered bodies.names ds
-  pub right : (w : List ℕ) → tree_of_body types (node_of ds bodies.any w) ≡ body (meanings types ds) w
-  pub within : (w : List ℕ) (i : ℕ) → node_of ds bodies.any w ≡ Some i → i < length types
 
 -- all moves of a continuation, in order, repetitions kept
 pub record AreMovesOf (types : List Row) (ds : List TypeDef) (old new : List Cell) (number : ℕ) (found : List Found) : Type 0 where

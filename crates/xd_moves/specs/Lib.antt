@@ -4,4 +4,3 @@ pub mod Pieces
 pub mod Numbered
 pub mod Cells
 pub mod Found
-pub mod Bodies

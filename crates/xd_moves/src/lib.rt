@@ -1,7 +1,6 @@
 //! The moves of a continuation: by which elements and texts a document of it can begin.
 #![tactic(auto)]
 
-mod bodies;
 mod cells;
 mod codes;
 mod contents;
@@ -10,13 +9,14 @@ mod first_uses;
 mod firsts;
 mod lists;
 mod piece;
+mod sources;
 mod stand_ins;
 
-pub use bodies::TypeBodies;
 pub use cells::{Cell, Continuations};
 pub use contents::content;
 pub use expansion::{Found, expand, is_empty};
 pub use first_uses::FirstUses;
 pub use firsts::FirstPieces;
 pub use piece::Piece;
+pub use sources::Sources;
 pub use stand_ins::{StandIns, Themselves};

@@ -4,9 +4,11 @@ use Rattle.xd_syntax.specs.Kept.{program_tree}
 use Rattle.xd_sound.specs.TypeNames.{meanings}
 use Rattle.xd_laws.specs.Guarded.{Guarded}
 use Rattle.xd_laws.proofs.SoundGuarded.{guarded}
-use Rattle.xd_moves.specs.Found.{AreBodies, AreDecidingMarks, AreOfTypes}
-use Rattle.xd_moves.proofs.Bodied.{are_bodies}
-use Rattle.xd_heads.proofs.KeepsStatesLemmas.{along, bodies_stand, marks_decide}
+use Rattle.xd_moves.specs.Found.{AreDecidingMarks, AreOfTypes}
+use Rattle.xd_continuations.specs.Bodies.{AreBodies}
+use Rattle.xd_continuations.proofs.GrownTables.{along, bodies_stand}
+use Rattle.xd_continuations.proofs.Bodied.{are_bodies}
+use Rattle.xd_heads.proofs.KeepsStatesLemmas.{marks_decide}
 use Rattle.xd_calls_states.proofs.types.count_moves.Goals as goal
 
 pub expand-requires-clause-guarded : goal.expand-requires-clause-guarded

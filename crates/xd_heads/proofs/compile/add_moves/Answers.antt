@@ -24,7 +24,7 @@ still_found types old new f k i = (i.0, (let l = kept_length old new k in let h 
 
 pub loop-one-init : goal.loop-one-init
 loop-one-init c = (
-  adding_none c.args.types.now c.args.defs.now c.expand.new.cells c.args.states.now c.args.auto.now c.args.from c.requires.aligned,
+  adding_none c.args.sources.now.types.now c.args.sources.now.defs.now c.expand.new.cells c.args.made.now.states c.args.auto.now c.args.from c.requires.aligned,
   others_same c.args.from c.args.auto.now c.args.auto.now refl,
 )
 
@@ -34,9 +34,9 @@ add_move-requires-clause-nodes c = c.loop-one.invariant.0.adds.cells_added.nodes
 pub add_move-requires-clause-found : goal.add_move-requires-clause-found
 unfolding no_move
 add_move-requires-clause-found c =
-    let types = c.args.types.now in
+    let types = c.args.sources.now.types.now in
     let stand = subst (AllByRecursion (IsFound types c.expand.new.cells)) (sym c.deref-one-items.ensures.value) c.in_ok-found.ensures.moves.stand in
-    still_found types c.expand.new.cells c.loop-one.cells (get_or c.deref-one-items.result.now c.loop-one.one-index no_move) c.loop-one.invariant.0.adds.cells_added.kept
+    still_found types c.expand.new.cells c.loop-one.made.cells (get_or c.deref-one-items.result.now c.loop-one.one-index no_move) c.loop-one.invariant.0.adds.cells_added.kept
     (found_at types c.expand.new.cells c.deref-one-items.result.now c.loop-one.one-index no_move stand c.loop-one-test.true)
 
 pub add_move-requires-clause-from : goal.add_move-requires-clause-from
@@ -48,12 +48,12 @@ add_move-requires-clause-aligned c = c.loop-one.invariant.0.adds.aligned
 pub loop-one-preserved : goal.loop-one-preserved
 unfolding no_move
 loop-one-preserved c =
-    let types = c.args.types.now in
+    let types = c.args.sources.now.types.now in
     let fs = c.deref-one-items.result.now in
     let i = c.loop-one.one-index in
     let stand = subst (AllByRecursion (IsFound types c.expand.new.cells)) (sym c.deref-one-items.ensures.value) c.in_ok-found.ensures.moves.stand in (
-      subst (IsAdding types c.args.defs.now c.expand.new.cells c.add_move.new.cells c.args.states.now c.add_move.new.states c.args.auto.now c.add_move.new.auto c.args.from) (sym (take_more fs i no_move c.loop-one-test.true))
-          (adding_more types c.args.defs.now c.expand.new.cells c.loop-one.cells c.add_move.new.cells c.args.states.now c.loop-one.states c.add_move.new.states
+      subst (IsAdding types c.args.sources.now.defs.now c.expand.new.cells c.add_move.new.made.cells c.args.made.now.states c.add_move.new.made.states c.args.auto.now c.add_move.new.auto c.args.from) (sym (take_more fs i no_move c.loop-one-test.true))
+          (adding_more types c.args.sources.now.defs.now c.expand.new.cells c.loop-one.made.cells c.add_move.new.made.cells c.args.made.now.states c.loop-one.made.states c.add_move.new.made.states
           c.args.auto.now c.loop-one.auto' c.add_move.new.auto c.args.from (take i fs) (get_or fs i no_move)
           (found_at types c.expand.new.cells fs i no_move stand c.loop-one-test.true) c.loop-one.invariant.0 c.in_ok-add_move.ensures.moves),
       others_then c.args.from c.args.auto.now c.loop-one.auto' c.add_move.new.auto c.loop-one.invariant.1 c.add_move.ensures.spares,
@@ -65,9 +65,9 @@ returns-in_err-add_move-clause-spares c =
 
 pub returns-clause-moves : goal.returns-clause-moves
 returns-clause-moves c =
-    let types = c.args.types.now in
+    let types = c.args.sources.now.types.now in
     let t = c.loop-one-test.false in
     let e = take_all c.loop-one.one-index c.deref-one-items.result.now t ∙ c.deref-one-items.ensures.value in
-    moves_added types c.args.defs.now c.args.cells.now c.expand.new.cells c.loop-one.cells c.args.states.now c.loop-one.states c.args.auto.now c.loop-one.auto' c.args.from c.args.number
+    moves_added types c.args.sources.now.defs.now c.args.made.now.cells c.expand.new.cells c.loop-one.made.cells c.args.made.now.states c.loop-one.made.states c.args.auto.now c.loop-one.auto' c.args.from c.args.number
     c.in_ok-found.found.items c.requires.number c.in_ok-found.ensures.moves
-    (subst (IsAdding types c.args.defs.now c.expand.new.cells c.loop-one.cells c.args.states.now c.loop-one.states c.args.auto.now c.loop-one.auto' c.args.from) e c.loop-one.invariant.0) c.requires.from
+    (subst (IsAdding types c.args.sources.now.defs.now c.expand.new.cells c.loop-one.made.cells c.args.made.now.states c.loop-one.made.states c.args.auto.now c.loop-one.auto' c.args.from) e c.loop-one.invariant.0) c.requires.from

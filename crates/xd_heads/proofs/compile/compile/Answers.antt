@@ -17,31 +17,31 @@ nothing (Some x) h = absurd (h x refl)
 
 pub loop-number-smaller : goal.loop-number-smaller
 loop-number-smaller c =
-    let types = c.args.types.now in
-    let E = meanings types c.args.defs.now in
+    let types = c.args.sources.now.types.now in
+    let E = meanings types c.args.sources.now.defs.now in
     let i = c.loop-number.invariant in
-    let few = states_few E (nodes_in types) types c.loop-number.cells c.loop-number.states c.len-count.ensures.links (i.cells_added.nodes c.requires.nodes)
+    let few = states_few E (nodes_in types) types c.loop-number.made.cells c.loop-number.made.states c.len-count.ensures.links (i.cells_added.nodes c.requires.nodes)
     (i.bounded c.requires.tail c.requires.stand c.requires.bounded) c.len-states.ensures.once i.compiled.numbers in
-    let h = number_within c.loop-number.states c.loop-number.done c.in-Some.number (sym c.continuation.ensures ∙ c.in-Some.is) in
+    let h = number_within c.loop-number.made.states c.loop-number.done c.in-Some.number (sym c.continuation.ensures ∙ c.in-Some.is) in
     less_left c.loop-number.done (room (length types) (longest E (nodes_in types))) (omega arith)
 
 pub loop-number-preserved : goal.loop-number-preserved
 loop-number-preserved c =
-    let e : number_at c.loop-number.states c.loop-number.done ≡ Some c.in-Some.number = sym c.continuation.ensures ∙ c.in-Some.is in
-    let n = number_below (length c.loop-number.cells) c.loop-number.states c.loop-number.done c.in-Some.number c.loop-number.invariant.compiled.numbers e in
-    compiling_more c.args.types.now c.args.defs.now c.args.cells.now c.loop-number.cells c.add_moves.new.cells c.args.states.now c.loop-number.states c.add_moves.new.states
+    let e : number_at c.loop-number.made.states c.loop-number.done ≡ Some c.in-Some.number = sym c.continuation.ensures ∙ c.in-Some.is in
+    let n = number_below (length c.loop-number.made.cells) c.loop-number.made.states c.loop-number.done c.in-Some.number c.loop-number.invariant.compiled.numbers e in
+    compiling_more c.args.sources.now.types.now c.args.sources.now.defs.now c.args.made.now.cells c.loop-number.made.cells c.add_moves.new.made.cells c.args.made.now.states c.loop-number.made.states c.add_moves.new.made.states
     c.args.first c.args.auto.now c.loop-number.auto' c.add_moves.new.auto c.state-from.result c.loop-number.done c.in-Some.number c.requires.merged c.requires.stand c.state-from.ensures.number e
     c.loop-number.invariant c.in_ok-add_moves.ensures.moves c.add_moves.ensures.spares n
 
 pub returns-clause-compiled : goal.returns-clause-compiled
 returns-clause-compiled c =
     let e = sym c.continuation.ensures ∙ nothing c.continuation.result c.in_default.not-Some in
-    all_compiled c.args.types.now c.args.defs.now c.args.cells.now c.loop-number.cells c.args.states.now c.loop-number.states c.args.first c.args.auto.now c.loop-number.auto' c.loop-number.done
-    (number_none c.loop-number.states c.loop-number.done e) c.loop-number.invariant
+    all_compiled c.args.sources.now.types.now c.args.sources.now.defs.now c.args.made.now.cells c.loop-number.made.cells c.args.made.now.states c.loop-number.made.states c.args.first c.args.auto.now c.loop-number.auto' c.loop-number.done
+    (number_none c.loop-number.made.states c.loop-number.done e) c.loop-number.invariant
 
 pub loop-number-init : goal.loop-number-init
 loop-number-init c =
-    compiling_none c.args.types.now c.args.defs.now c.args.cells.now c.args.states.now c.args.auto.now c.args.first c.requires.first c.requires.compiled
+    compiling_none c.args.sources.now.types.now c.args.sources.now.defs.now c.args.made.now.cells c.args.made.now.states c.args.auto.now c.args.first c.requires.first c.requires.compiled
 
 pub returns-in_err-add_moves-clause-spares : goal.returns-in_err-add_moves-clause-spares
 returns-in_err-add_moves-clause-spares c =

@@ -7,7 +7,7 @@ use Rattle.xd_heads.proofs.AddingMoves.{IsCompiling}
 use Rattle.xd_heads.proofs.compile.compile.Given as goal
 
 abbrev pub invariant-loop-number : goal.invariant-loop-number
-invariant-loop-number l = IsCompiling l.types l.defs l.fn.cells l.cells l.fn.states l.states l.fn.first l.fn.auto l.auto' l.done
+invariant-loop-number l = IsCompiling l.sources.types.now l.sources.defs.now l.fn.made.cells l.made.cells l.fn.made.states l.made.states l.fn.first l.fn.auto l.auto' l.done
 
 abbrev pub decreases-loop-number : goal.decreases-loop-number
-decreases-loop-number l = room (length l.types) (longest (meanings l.types l.defs) (nodes_in l.types)) - l.done
+decreases-loop-number l = room (length l.sources.types.now) (longest (meanings l.sources.types.now l.sources.defs.now) (nodes_in l.sources.types.now)) - l.done

@@ -11,35 +11,35 @@ use Rattle.xd_heads.proofs.compile.compile_node.Goals as goal
 
 pub compile-requires-clause-compiled : goal.compile-requires-clause-compiled
 compile-requires-clause-compiled c =
-    let types = c.args.types.now in
+    let types = c.args.sources.now.types.now in
     let T = tree_at types c.args.part.at in
     let good : IsOfState types (pieces T) = (pieces_stand T c.requires.merged_part, λ s. subst (λ U. depth U ≤ nesting_limit) (sym (seq_of-pieces T c.requires.merged_part)) (s c.args.part.at c.requires.part)) in
-    subst (λ n. AreCompiled types c.args.defs.now c.content.new.cells c.state_of.new.states c.state_of.new.auto n []) (sym c.len-first.ensures.count)
-    (type_started types c.args.defs.now c.args.cells.now c.content.new.cells c.args.states.now c.state_of.new.states c.args.auto.now c.state_of.new.auto (pieces (tree_at types c.args.part.at))
+    subst (λ n. AreCompiled types c.args.sources.now.defs.now c.content.new.cells c.state_of.new.states c.state_of.new.auto n []) (sym c.len-first.ensures.count)
+    (type_started types c.args.sources.now.defs.now c.args.made.now.cells c.content.new.cells c.args.made.now.states c.state_of.new.states c.args.auto.now c.state_of.new.auto (pieces (tree_at types c.args.part.at))
     c.in_ok-inside.inside c.in_ok-state.state good c.in_ok-inside.ensures.content c.in_ok-state.ensures.got c.requires.compiled)
 
 pub compile-requires-clause-bounded : goal.compile-requires-clause-bounded
 compile-requires-clause-bounded c =
-    type_bounded c.args.types.now c.args.defs.now c.args.cells.now c.content.new.cells c.args.part.at c.in_ok-inside.inside c.requires.part c.in_ok-inside.ensures.content
+    type_bounded c.args.sources.now.types.now c.args.sources.now.defs.now c.args.made.now.cells c.content.new.cells c.args.part.at c.in_ok-inside.inside c.requires.part c.in_ok-inside.ensures.content
     c.requires.tail c.requires.stand c.requires.bounded
 
 pub returns-clause-continuation : goal.returns-clause-continuation
 returns-clause-continuation c =
-    type_continues c.args.types.now c.args.defs.now c.args.cells.now c.content.new.cells c.compile.new.cells c.args.states.now c.state_of.new.states c.compile.new.states
-    c.args.auto.now c.state_of.new.auto c.compile.new.auto (pieces (tree_at c.args.types.now c.args.part.at)) c.in_ok-inside.inside c.in_ok-state.state
+    type_continues c.args.sources.now.types.now c.args.sources.now.defs.now c.args.made.now.cells c.content.new.cells c.compile.new.made.cells c.args.made.now.states c.state_of.new.states c.compile.new.made.states
+    c.args.auto.now c.state_of.new.auto c.compile.new.auto (pieces (tree_at c.args.sources.now.types.now c.args.part.at)) c.in_ok-inside.inside c.in_ok-state.state
     c.in_ok-inside.ensures.content c.in_ok-state.ensures.got c.in_ok-compile.ensures.compiled
 
 pub returns-clause-accepts : goal.returns-clause-accepts
 returns-clause-accepts c d =
-    type_accepts c.args.types.now c.args.defs.now c.requires.guarded c.requires.merged c.compile.new.cells c.compile.new.states c.content.new.cells c.state_of.new.states
+    type_accepts c.args.sources.now.types.now c.args.sources.now.defs.now c.requires.guarded c.requires.merged c.compile.new.made.cells c.compile.new.made.states c.content.new.cells c.state_of.new.states
     c.compile.new.auto c.args.part.at c.in_ok-state.state c.requires.merged_part c.in_ok-compile.ensures.compiled
-    (type_continues c.args.types.now c.args.defs.now c.args.cells.now c.content.new.cells c.compile.new.cells c.args.states.now c.state_of.new.states c.compile.new.states
-    c.args.auto.now c.state_of.new.auto c.compile.new.auto (pieces (tree_at c.args.types.now c.args.part.at)) c.in_ok-inside.inside c.in_ok-state.state
+    (type_continues c.args.sources.now.types.now c.args.sources.now.defs.now c.args.made.now.cells c.content.new.cells c.compile.new.made.cells c.args.made.now.states c.state_of.new.states c.compile.new.made.states
+    c.args.auto.now c.state_of.new.auto c.compile.new.auto (pieces (tree_at c.args.sources.now.types.now c.args.part.at)) c.in_ok-inside.inside c.in_ok-state.state
     c.in_ok-inside.ensures.content c.in_ok-state.ensures.got c.in_ok-compile.ensures.compiled) d
 
 pub returns-clause-compiled : goal.returns-clause-compiled
 returns-clause-compiled c =
-    type_compiled c.args.types.now c.args.defs.now c.args.cells.now c.content.new.cells c.compile.new.cells c.args.states.now c.state_of.new.states c.compile.new.states
+    type_compiled c.args.sources.now.types.now c.args.sources.now.defs.now c.args.made.now.cells c.content.new.cells c.compile.new.made.cells c.args.made.now.states c.state_of.new.states c.compile.new.made.states
     c.args.auto.now c.state_of.new.auto c.compile.new.auto c.args.part.at c.in_ok-inside.inside c.in_ok-state.state c.requires.part c.in_ok-inside.ensures.content c.in_ok-state.ensures.got
     c.in_ok-compile.ensures.compiled
 

@@ -20,36 +20,36 @@ first_and_rest E types cells at d l =
 
 pub is_empty-requires-clause-piece : goal.is_empty-requires-clause-piece
 is_empty-requires-clause-piece c =
-    all_among (λ (d : Cell). d.item.node < length c.args.types.now) c.args.cells.now c.requires.nodes c.link-cell.result c.link-cell.ensures.stands
+    all_among (λ (d : Cell). d.item.node < length c.args.sources.now.types.now) c.args.cells.now c.requires.nodes c.link-cell.result c.link-cell.ensures.stands
 
 pub returns-then-not-is_empty : goal.returns-then-not-is_empty
 returns-then-not-is_empty c =
-    let E = meanings c.args.types.now c.args.defs.now in
-    let rest = can_be_empty E (seq_of (continuation c.args.types.now c.args.cells.now c.link-cell.result.behind)) in
+    let E = meanings c.args.sources.now.types.now c.args.sources.now.defs.now in
+    let rest = can_be_empty E (seq_of (continuation c.args.sources.now.types.now c.args.cells.now c.link-cell.result.behind)) in
     ap (λ b. b && rest) c.if-not-is_empty.ensures
-    ∙ sym (first_and_rest E c.args.types.now c.args.cells.now c.loop-at.at c.link-cell.result c.link-cell.ensures.list)
+    ∙ sym (first_and_rest E c.args.sources.now.types.now c.args.cells.now c.loop-at.at c.link-cell.result c.link-cell.ensures.list)
     ∙ c.loop-at.invariant.same
 
 pub loop-at-preserved : goal.loop-at-preserved
 loop-at-preserved c =
-    let E = meanings c.args.types.now c.args.defs.now in
-    let rest = can_be_empty E (seq_of (continuation c.args.types.now c.args.cells.now c.link-cell.result.behind)) in
+    let E = meanings c.args.sources.now.types.now c.args.sources.now.defs.now in
+    let rest = can_be_empty E (seq_of (continuation c.args.sources.now.types.now c.args.cells.now c.link-cell.result.behind)) in
     let w = c.loop-at.invariant.within in
     let o = c.link-cell.ensures.older in
     record {
       within = omega arith;
       same =
           ap (λ b. b && rest) c.if-not-is_empty.ensures
-          ∙ sym (first_and_rest E c.args.types.now c.args.cells.now c.loop-at.at c.link-cell.result c.link-cell.ensures.list)
+          ∙ sym (first_and_rest E c.args.sources.now.types.now c.args.cells.now c.loop-at.at c.link-cell.result c.link-cell.ensures.list)
           ∙ c.loop-at.invariant.same;
     }
 
 pub returns : goal.returns
 returns c =
-    let E = meanings c.args.types.now c.args.defs.now in
+    let E = meanings c.args.sources.now.types.now c.args.sources.now.defs.now in
     let t = c.loop-at-test.false in
     let z : c.loop-at.at ≡ 0 = omega arith in
     sym (none_empty E)
-    ∙ ap (λ K. can_be_empty E (seq_of (map (piece_tree c.args.types.now) K))) (sym (list_none c.args.cells.now))
-    ∙ ap (λ n. can_be_empty E (seq_of (continuation c.args.types.now c.args.cells.now n))) (sym z)
+    ∙ ap (λ K. can_be_empty E (seq_of (map (piece_tree c.args.sources.now.types.now) K))) (sym (list_none c.args.cells.now))
+    ∙ ap (λ n. can_be_empty E (seq_of (continuation c.args.sources.now.types.now c.args.cells.now n))) (sym z)
     ∙ c.loop-at.invariant.same

@@ -8,7 +8,7 @@ use Rattle.xd_heads.proofs.compile.is_last.Given as goal
 abbrev pub invariant-loop-at : goal.invariant-loop-at
 invariant-loop-at l = record {
   within : l.at ≤ length l.cells;
-  same : can_be_empty (meanings l.types l.defs) (seq_of (continuation l.types l.cells l.at)) ≡ can_be_empty (meanings l.types l.defs) (seq_of (continuation l.types l.cells l.number));
+  same : can_be_empty (meanings l.sources.types.now l.sources.defs.now) (seq_of (continuation l.sources.types.now l.cells l.at)) ≡ can_be_empty (meanings l.sources.types.now l.sources.defs.now) (seq_of (continuation l.sources.types.now l.cells l.number));
 }
 
 abbrev pub decreases-loop-at : goal.decreases-loop-at

@@ -12,13 +12,10 @@ find_moves-requires-clause-nodes c =
     subst (λ (t : List Row). AreOfTypes t c.content.new.cells) c.types-types.ensures.types
     (c.in_ok-number.ensures.content.cells.nodes (subst (AreOfTypes c.types-types.result.now) (sym c.new-cells.ensures) tt))
 
-pub find_moves-requires-clause-pieces : goal.find_moves-requires-clause-pieces
-find_moves-requires-clause-pieces c =
-    subst (λ (t : List Row). continuation t c.content.new.cells c.in_ok-number.number ≡ pieces (tree_at t c.args.id.at)) c.types-types.ensures.types c.in_ok-number.ensures.content.same
-
 pub returns : goal.returns
 returns c =
-    let f = c.in_ok-found.ensures.found in
+    let pieces = subst (λ (t : List Row). continuation t c.content.new.cells c.in_ok-number.number ≡ pieces (tree_at t c.args.id.at)) c.types-types.ensures.types c.in_ok-number.ensures.content.same in
+    let f = c.in_ok-found.ensures.found c.args.id c.requires.belongs pieces in
     record {
       kept = kept_then [] c.content.new.cells c.find_moves.new.cells (subst (λ (cs : List Cell). KeepsLinks cs c.content.new.cells) c.new-cells.ensures c.in_ok-number.ensures.content.cells.kept) f.kept;
       nodes = f.nodes;

@@ -7,10 +7,12 @@ use Rattle.xd_laws.proofs.SoundGuarded.{guarded}
 use Rattle.xd_continuations.proofs.IsMergedLemmas.{tree_merged}
 use Rattle.xd_continuations.proofs.ChainLemmas.{kept_same}
 use Rattle.xd_moves.specs.Cells.{StayChosen}
-use Rattle.xd_moves.specs.Found.{AreBodies, AreDecidingMarks, AreMovesOf, AreOfTypes}
-use Rattle.xd_moves.proofs.Bodied.{are_bodies}
+use Rattle.xd_moves.specs.Found.{AreDecidingMarks, AreMovesOf, AreOfTypes}
+use Rattle.xd_continuations.specs.Bodies.{AreBodies}
+use Rattle.xd_continuations.proofs.GrownTables.{along, back_along, bodies_stand}
+use Rattle.xd_continuations.proofs.Bodied.{are_bodies}
 use Rattle.xd_heads.proofs.HeadLists.{heads_found}
-use Rattle.xd_heads.proofs.KeepsStatesLemmas.{along, back_along, bodies_stand, marks_decide}
+use Rattle.xd_heads.proofs.KeepsStatesLemmas.{marks_decide}
 use Rattle.xd_heads.proofs.listing.find_moves.Goals as goal
 
 pub expand-requires-clause-guarded : goal.expand-requires-clause-guarded
@@ -37,15 +39,15 @@ pub expand-requires-clause-serve : goal.expand-requires-clause-serve
 expand-requires-clause-serve g c = subst (λ (t : List Row). g.S.StandIns.serve t c.args.stand_ins.now) (sym c.types-types.ensures.types) c.requires.serve
 
 pub returns-clause-found : goal.returns-clause-found
-returns-clause-found g c =
+returns-clause-found g c id belongs pieces =
     let p = c.args.program.now in
     let types = c.types-types.result.now in
     let e = c.types-types.ensures.types in
     let built = subst (AreBuilt false) e c.see_table.ensures.built in
-    let T = tree_at p.types c.args.id.at in
+    let T = tree_at p.types id.at in
     let cells = c.args.cells.now in
-    heads_found p c.types-types.ensures.stands built T (tree_merged p.types built c.args.id.at c.requires.belongs) (λ s. s c.args.id.at c.requires.belongs)
-    cells c.expand.new.cells c.args.number c.in_ok-found.found.items c.requires.nodes c.requires.pieces
+    heads_found p c.types-types.ensures.stands built T (tree_merged p.types built id.at belongs) (λ s. s id.at belongs)
+    cells c.expand.new.cells c.args.number c.in_ok-found.found.items c.requires.nodes pieces
     (back_along p types c.type_defs.result.now (λ t d. AreMovesOf t d cells c.expand.new.cells c.args.number c.in_ok-found.found.items) e c.type_defs.ensures.type_defs c.in_ok-found.ensures.moves)
     cells (kept_same cells)
 

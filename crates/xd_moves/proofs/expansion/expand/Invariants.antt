@@ -7,9 +7,9 @@ use Rattle.xd_moves.proofs.expansion.expand.Given as goal
 
 abbrev pub invariant-loop-task : goal.invariant-loop-task
 invariant-loop-task g l = record {
-  expanding : IsExpanding l.types l.defs l.fn.cells l.number l.cells l.tasks.items l.found.items;
-  chosen : StayChosen (g.S.StandIns.chosen l.types l.stand_ins) l.fn.cells l.cells;
+  expanding : IsExpanding l.sources.types.now l.sources.defs.now l.fn.cells l.number l.cells l.tasks.items l.found.items;
+  chosen : StayChosen (g.S.StandIns.chosen l.sources.types.now l.stand_ins) l.fn.cells l.cells;
 }
 
 abbrev pub decreases-loop-task : goal.decreases-loop-task
-decreases-loop-task g l = work_left (meanings l.types l.defs) (waiting_at l.types l.cells l.tasks.items)
+decreases-loop-task g l = work_left (meanings l.sources.types.now l.sources.defs.now) (waiting_at l.sources.types.now l.cells l.tasks.items)

@@ -8,6 +8,6 @@ use Rattle.xd_moves.proofs.expansion.is_empty.Goals as goal
 
 pub returns-then-is_plus : goal.returns-then-is_plus
 returns-then-is_plus c =
-    let E = meanings c.args.types.now c.args._defs.now in
-    let T = tree_at c.args.types.now c.args.piece.node in
+    let E = meanings c.args.sources.now.types.now c.args.sources.now.defs.now in
+    let T = tree_at c.args.sources.now.types.now c.args.piece.node in
     sym (ap (λ b. can_be_empty E (cond b (turns_of T) T)) c.if-piece.true ∙ plus_empty E T (sym c.if-is_plus.ensures))

@@ -2,7 +2,7 @@
 
 ghost use Rattle.std.specs.Prelude.{◌≡◌};
 ghost use Rattle.xd_sound.specs.TypeNames.{AreNumbered};
-ghost use Rattle.xd_moves.specs.Bodies.{node_of};
+ghost use Rattle.xd_continuations.specs.Bodies.{node_of};
 
 use xd_doc::Label;
 use xd_sound::TypeNames;
