@@ -13,10 +13,6 @@ both_true true true e = absurd (cc)
 both_true true false e = (refl, refl)
 both_true false y e = absurd (cc)
 
-pub false_if : (b : Bool) → (b ≡ true → ⊥) → b ≡ false
-false_if true h = absurd (h refl)
-false_if false h = refl
-
 -- of sets with the same documents, the same documents are least
 pub up_to_equal : (limit : ℕ) (In Among : Document → Type 0) (d : Document) → ((e : Document) → In e → Among e) → ((e : Document) → Among e → In e) → IsLeastUpTo limit In d → IsLeastUpTo limit Among d
 up_to_equal limit In Among d to from w = record {

@@ -5,6 +5,7 @@ use Rattle.std.specs.List.{All, Contains, remove}
 use Rattle.std.proofs.lemmas.List.{get_or_default, set-append_right}
 use Rattle.std.proofs.lemmas.List.Elements.{All-append, All-drop, All-get_or, All-take}
 use Rattle.std.proofs.lemmas.List.Sorted.{Contains-permutation, IsPermutation-remove}
+use Rattle.std.proofs.lemmas.Bool.{and_from}
 use Rattle.xd_doc.specs.Classes.{NameClass, class_has}
 use Rattle.xd_auto.specs.declared.auto.State.{State}
 use Rattle.xd_auto.specs.declared.auto.LabelMove.{LabelMove}
@@ -75,11 +76,6 @@ copied_at_end old made after s last labels texts n at added f g is =
     is ∙ ap (λ (v : StateMoves). set made (state_number s) v) (with_fields (moves_at made s) n last labels texts (at_end old made (no_moves last) (no_moves false) (state_number s) added at) f g)
     ∙ ap (λ (xs : Automaton). set xs (state_number s) (copied last n)) added ∙ set_at_end old (no_moves last) (copied last n) (state_number s) at
 
-both : (x y : Bool) → x ≡ true → y ≡ true → (x && y) ≡ true
-both true true e f = refl
-both true false e f = absurd (cc)
-both false y e f = absurd (cc)
-
 both_not : (x y : Bool) → x ≡ true → y ≡ false → (x && not y) ≡ true
 both_not true true e f = absurd (cc)
 both_not true false e f = refl
@@ -91,8 +87,8 @@ pub added_inside : (w m : LabelMove) (part same : NameClass) (content rest : Sta
     → AddsInside w m content rest old new
 added_inside w m part same content rest old one new is e keeps_one has_one keeps_new has_new = record {
   keeps = λ v c. keeps_new v (keeps_one v c);
-  content_side = λ l h k. has_kept w m one new l content w.rest keeps_new (has_one l (ap (λ (c : NameClass). class_has c l) e ∙ is l ∙ both (class_has w.class l) (class_has m.class l) h k));
-  rest_side = λ l h k. has_new l (is l ∙ both (class_has w.class l) (class_has m.class l) h k);
+  content_side = λ l h k. has_kept w m one new l content w.rest keeps_new (has_one l (ap (λ (c : NameClass). class_has c l) e ∙ is l ∙ and_from (class_has w.class l) (class_has m.class l) h k));
+  rest_side = λ l h k. has_new l (is l ∙ and_from (class_has w.class l) (class_has m.class l) h k);
 }
 
 pub added_outside : (w m : LabelMove) (part : NameClass) (old new : List LabelMove) → ((l : List ℕ) → class_has part l ≡ (class_has w.class l && not (class_has m.class l))) → ((v : LabelMove) → Contains old v → Contains new v) → ((l : List ℕ) → class_has part l ≡ true → HasMove new l w.content w.rest)
@@ -101,7 +97,7 @@ added_outside w m part old new is keeps has = record { keeps = keeps; outside = 
 
 pub added_text_inside : (w m : TextMove) (part : NameClass) (rest : State) (old new : List TextMove) → ((t : List ℕ) → class_has part t ≡ (class_has w.words t && class_has m.words t)) → ((v : TextMove) → Contains old v → Contains new v) → ((t : List ℕ) → class_has part t ≡ true → HasTextMove new t rest)
     → AddsTextInside w m rest old new
-added_text_inside w m part rest old new is keeps has = record { keeps = keeps; rest_side = λ t h k. has t (is t ∙ both (class_has w.words t) (class_has m.words t) h k) }
+added_text_inside w m part rest old new is keeps has = record { keeps = keeps; rest_side = λ t h k. has t (is t ∙ and_from (class_has w.words t) (class_has m.words t) h k) }
 
 pub added_text_outside : (w m : TextMove) (part : NameClass) (old new : List TextMove) → ((t : List ℕ) → class_has part t ≡ (class_has w.words t && not (class_has m.words t))) → ((v : TextMove) → Contains old v → Contains new v) → ((t : List ℕ) → class_has part t ≡ true → HasTextMove new t w.rest)
     → AddsTextOutside w m old new

@@ -9,6 +9,7 @@ use Rattle.std.proofs.lemmas.List.Folds.{Any-from_list_any, list_any_at}
 use Rattle.xd_doc.specs.Document.{Document, empty, text, element}
 use Rattle.xd_doc.specs.Classes.{class_has}
 use Rattle.xd_doc.specs.Least.{IsLeast}
+use Rattle.xd_doc.proofs.Bools.{and_true, and_parts}
 use Rattle.xd_auto.specs.declared.auto.State.{State}
 use Rattle.xd_auto.specs.declared.auto.LabelMove.{LabelMove}
 use Rattle.xd_auto.specs.declared.auto.TextMove.{TextMove}
@@ -81,20 +82,11 @@ module _ (a b : Automaton) (points more : List PointView) (k : KeepsPoints point
     meant = λ d. ap (λ (p : PointView). means a b p d) (k.same (state_number t) n.there) ∙ n.meant d ∙ ap (λ (p : PointView). means a b p d && not (accepts b d added)) (sym (k.same (state_number s) lt));
   }
 
-and_true : (x : Bool) → (x && true) ≡ x
-and_true true = refl
-and_true false = refl
-
 three_true : (x y z : Bool) → (x && (y && z)) ≡ true → (x ≡ true) × (y ≡ true) × (z ≡ true)
 three_true true true true e = (refl, refl, refl)
 three_true true true false e = absurd (cc)
 three_true true false z e = absurd (cc)
 three_true false y z e = absurd (cc)
-
-two_true : (x y : Bool) → (x && y) ≡ true → (x ≡ true) × (y ≡ true)
-two_true true true e = (refl, refl)
-two_true true false e = absurd (cc)
-two_true false y e = absurd (cc)
 
 -- a state with the moves of a left is loose for this left without any rights
 module _ (a b over : Automaton) (points : List PointView) (left : State) (left_there : IsState a left)
@@ -123,7 +115,7 @@ module _ (a b over : Automaton) (points : List PointView) (left : State) (left_t
     texts = λ q m.
         let taken = (both_true (accepts a (text_of q) left) (any_accepts b rights (text_of q)) m).0 in
         let t = Any-from_list_any (text_takes a q) (moves_at a left).texts taken in
-        let parts = two_true (class_has t.1.words q.characters) (accepts a q.rest t.1.rest) t.4 in
+        let parts = and_parts (class_has t.1.words q.characters) (accepts a q.rest t.1.rest) t.4 in
         let below = All-contains (λ (w : TextMove). state_number w.rest < length a) (moves_at a left).texts t.1 closed.texts (t.0, t.2, t.3) in (
           t.1,
           subst (λ (v : StateMoves). Contains v.texts t.1) (sym is) (t.0, t.2, t.3),

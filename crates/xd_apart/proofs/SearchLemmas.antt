@@ -4,8 +4,10 @@ use Rattle.std.proofs.lemmas.List.{get_or-take, length-take-le, take_all}
 use Rattle.xd_doc.specs.Document.{Document, size}
 use Rattle.xd_doc.specs.StoreNodes.{Keeps}
 use Rattle.xd_doc.specs.Stored.{document_at}
+use Rattle.xd_doc.proofs.StoredLemmas.{Keeps-same}
 use Rattle.xd_auto.specs.declared.auto.State.{State}
 use Rattle.xd_auto.specs.Automaton.{Automaton, Extends, accepts, state_number}
+use Rattle.xd_auto.proofs.ExtendsLemmas.{extends_itself}
 use Rattle.xd_boole.specs.Meaning.{PointView, less, means}
 use Rattle.xd_least.specs.declared.document.LeastDocument.{LeastDocument}
 use Rattle.xd_doc.specs.LeastUpTo.{IsLeastUpTo}
@@ -19,12 +21,6 @@ use Rattle.xd_apart.specs.Search.{KnowsLefts, Searches}
 use Rattle.xd_apart.proofs.LooseLemmas.{loose_accepts}
 use Rattle.xd_apart.proofs.StepLemmas.{left_count}
 
-keeps_same : (ds : List Document) → Keeps ds ds
-keeps_same ds = record { belongs = λ seq h. h; same = λ seq h. refl }
-
-extends_same : (a : Automaton) → Extends a a
-extends_same a = record { states = λ s h. h; moves = λ s h. refl }
-
 extends_lefts : (l : Loose) → l.lefts ≤ length l.over → Extends (left_states l) l.over
 extends_lefts l within = record {
   states = λ s lt. omega (arith, lt, within, left_count l within);
@@ -33,7 +29,7 @@ extends_lefts l within = record {
 
 -- what is known of the lefts is known of the whole automaton
 pub knows_over : (l : Loose) (ds : List Document) (known : List (Option LeastDocument)) → l.lefts ≤ length l.over → KnowsLefts l ds known → Knows l.over ds (take l.lefts known)
-knows_over l ds known within k = stays_known (take l.lefts known) (left_states l) l.over ds ds (extends_lefts l within) (keeps_same ds) k.knows
+knows_over l ds known within k = stays_known (take l.lefts known) (left_states l) l.over ds ds (extends_lefts l within) (Keeps-same ds) k.knows
 
 -- and it is still known where more was learnt after it
 pub knows_after : (l : Loose) (ds es : List Document) (known first after : List (Option LeastDocument)) → l.lefts ≤ length l.over → KnowsLefts l ds known → first ≡ take l.lefts known → Keeps ds es → length after ≡ length l.over → take (length first) after ≡ first → KnowsLefts l es after
@@ -42,7 +38,7 @@ knows_after l ds es known first after within k is keeps all remembers =
     let same : take l.lefts after ≡ take l.lefts known = ap (λ (n : ℕ). take n after) (sym count) ∙ remembers ∙ is in
     record {
       count = omega (arith, within, all);
-      knows = subst (λ (fs : List (Option LeastDocument)). Knows (left_states l) es fs) (sym same) (stays_known (take l.lefts known) (left_states l) (left_states l) ds es (extends_same (left_states l)) keeps k.knows);
+      knows = subst (λ (fs : List (Option LeastDocument)). Knows (left_states l) es fs) (sym same) (stays_known (take l.lefts known) (left_states l) (left_states l) ds es (extends_itself (left_states l)) keeps k.knows);
     }
 
 -- the search begins

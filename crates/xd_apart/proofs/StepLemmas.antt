@@ -1,5 +1,5 @@
 -- How loose automata begin, get points, and are divided.
-use Rattle.std.proofs.Common.{◌≡◌, ℕ, ◌<◌, ◌≤◌, Bool, true, false, ◌&&◌, ◌||◌, inl, inr, List, [], ◌∷◌, ◌++◌, get_or, length, length-append, take, refl, ap, sym, subst, ◌∙◌, arith}
+use Rattle.std.proofs.Common.{◌≡◌, ℕ, ◌<◌, ◌≤◌, Bool, true, false, ◌&&◌, inl, inr, List, [], ◌∷◌, ◌++◌, get_or, length, length-append, take, refl, ap, sym, subst, ◌∙◌, arith}
 use Rattle.std.specs.Prelude.{not, Some, slice_index_or}
 use Rattle.std.specs.List.{All, AllByRecursion, Contains, list_any}
 use Rattle.std.proofs.lemmas.Bool.{cases_lt}
@@ -9,7 +9,7 @@ use Rattle.std.specs.BTreeMap.{BTreeMap}
 use Rattle.std.specs.Cmp.Lexicographic.{pointwise}
 use Rattle.std.specs.Prelude.{cond, nat_eq}
 use Rattle.std.proofs.lemmas.Slice.Eq.{bytes_eq-Decides}
-use Rattle.xd_doc.specs.Document.{Document}
+use Rattle.xd_doc.proofs.Bools.{and_with_true, and_not_or}
 use Rattle.xd_auto.specs.declared.auto.State.{State}
 use Rattle.xd_auto.specs.declared.auto.LabelMove.{LabelMove}
 use Rattle.xd_auto.specs.declared.auto.TextMove.{TextMove}
@@ -18,17 +18,13 @@ use Rattle.xd_auto.proofs.Closed.{moves_at-closed, same_state}
 use Rattle.xd_boole.specs.Meaning.{PointView, any_accepts, is_last_in, less, means, with_states}
 use Rattle.xd_boole.specs.Points.{IsPointOf, MoveBelow, found_at, no_point, point_at, point_key, state_at}
 use Rattle.xd_boole.proofs.ArePointsLemmas.{at_end, same_point}
-use Rattle.xd_boole.proofs.AnyAcceptsLemmas.{set_accepts, with_states_all}
+use Rattle.xd_boole.proofs.AnyAcceptsLemmas.{set_accepts, with_states_all, any_accepts_push}
 use Rattle.xd_apart.specs.declared.loose.Loose.{Loose}
 use Rattle.xd_apart.specs.Loose.{Grows, IsLoose, IsLooseOver, IsRightMove, IsRightText, KeepsPoints, Loosens, Narrows, ReplacesLabel, ReplacesText, StandsFor, copied, left_states}
 use Rattle.xd_apart.proofs.LooseLemmas.{added_loosens, added_points, copied_loose, divided_loose, divided_loose_text, exchanged_at, exchanged_loosens, kept_narrows}
 
-and_true : (x : Bool) → x ≡ (x && true)
-and_true true = refl
-and_true false = refl
-
 with_no_rights : (moves : StateMoves) → moves ≡ copied (moves.last && true) moves
-with_no_rights moves = ap (λ (last : Bool). copied last moves) (and_true moves.last)
+with_no_rights moves = ap (λ (last : Bool). copied last moves) (and_with_true moves.last)
 
 -- an automaton over itself
 module _ (a b : Automaton) (points : List PointView) (closed : IsClosed a) (count : length points ≡ length a) (each : (i : ℕ) → i < length a → point_at points i ≡ less (state_at i) []) where
@@ -53,31 +49,14 @@ module _ (a b : Automaton) (points : List PointView) (closed : IsClosed a) (coun
 pub nothing_found : (m : BTreeMap (List ℕ) ℕ) → m.entries ≡ [] → (key : List ℕ) (i : ℕ) → found_at m key ≡ Some i → ⊥
 nothing_found m none key i at = (let bad = rw none at at in absurd (cc bad))
 
-or_false : (x : Bool) → (x || false) ≡ x
-or_false true = refl
-or_false false = refl
-
-or_join : (x y z : Bool) → (x || (y || z)) ≡ ((x || y) || z)
-or_join true y z = refl
-or_join false y z = refl
-
-any_more : (b : Automaton) (states : List State) (s : State) (d : Document) → any_accepts b (states ++ s ∷ []) d ≡ (any_accepts b states d || accepts b d s)
-any_more b [] s d = or_false (accepts b d s)
-any_more b (t ∷ ts) s d = ap (λ (x : Bool). accepts b d t || x) (any_more b ts s d) ∙ or_join (accepts b d t) (any_accepts b ts d) (accepts b d s)
-
-less_one : (x y z : Bool) → (x && not (y || z)) ≡ ((x && not y) && not z)
-less_one true true z = refl
-less_one true false z = refl
-less_one false y z = refl
-
 -- a point with one more right
 pub narrows_by : (a b : Automaton) (points : List PointView) (p : PointView) (s made added : State) → StandsFor points (less p.left (with_states (p.rights ++ added ∷ []) [])) made → point_at points (state_number s) ≡ p → Narrows a b points s made added
 narrows_by a b points p s made added stands is = record {
   there = stands.there;
   meant = λ d.
       ap (λ (q : PointView). means a b q d) stands.is
-      ∙ ap (λ (x : Bool). accepts a d p.left && not x) (set_accepts b (p.rights ++ added ∷ []) d ∙ any_more b p.rights added d)
-      ∙ less_one (accepts a d p.left) (any_accepts b p.rights d) (accepts b d added)
+      ∙ ap (λ (x : Bool). accepts a d p.left && not x) (set_accepts b (p.rights ++ added ∷ []) d ∙ any_accepts_push b p.rights added d)
+      ∙ and_not_or (accepts a d p.left) (any_accepts b p.rights d) (accepts b d added)
       ∙ ap (λ (q : PointView). means a b q d && not (accepts b d added)) (sym is);
 }
 

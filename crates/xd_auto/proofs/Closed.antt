@@ -7,7 +7,7 @@ use Rattle.xd_auto.specs.Copying.{LabelBelow}
 use Rattle.xd_auto.specs.declared.auto.State.{State}
 use Rattle.xd_auto.specs.declared.auto.LabelMove.{LabelMove}
 use Rattle.xd_auto.specs.declared.auto.TextMove.{TextMove}
-use Rattle.xd_auto.specs.Automaton.{Automaton, StateMoves, IsState, LeadsBelow, IsClosed, no_moves, moves_at, with_moves}
+use Rattle.xd_auto.specs.Automaton.{Automaton, StateMoves, IsState, LeadsBelow, IsClosed, no_moves, moves_at, with_moves, state_number}
 
 -- states of one number are one
 pub same_state : (s t : State) → s.number ≡ t.number → s ≡ t
@@ -59,3 +59,6 @@ IsClosed-text a s m h here k =
     let old = moves_at-closed a s h here in
     IsClosed-with_moves a s (record (moves_at a s) { texts = (moves_at a s).texts ++ m ∷ [] }) h
     (record { labels = old.labels; texts = All-push (λ (w : TextMove). w.rest.number < length a) (moves_at a s).texts m old.texts k })
+
+pub state_of_number : (s t : State) → state_number s ≡ state_number t → s ≡ t
+state_of_number s t e = ap (λ (n : ℕ). record { number = n }) e

@@ -6,6 +6,7 @@ use Rattle.std.proofs.lemmas.List.Elements.{All-head, All-tail, all_zip_more}
 use Rattle.std.proofs.lemmas.List.Folds.{list_any-append}
 use Rattle.xd_doc.specs.Document.{Document}
 use Rattle.xd_doc.specs.Classes.{class_has}
+use Rattle.xd_doc.proofs.Lists.{zip_push, any_map}
 use Rattle.xd_auto.specs.declared.auto.LabelMove.{LabelMove}
 use Rattle.xd_auto.specs.declared.auto.TextMove.{TextMove}
 use Rattle.xd_auto.specs.Automaton.{Automaton, StateMoves, accepts, takes_element}
@@ -19,12 +20,6 @@ AddsCopies-more contents rests moves old new i m n below is adds copy = record {
   copies = all_zip_more (IsCopy contents rests) moves adds.more i m n below is adds.copies copy;
 }
 
-pub zip_push : {X Y : Type 0} (R : X → Y → Type 0) (xs : List X) (ys : List Y) (x : X) (y : Y) → AllZip R xs ys → R x y → AllZip R (xs ++ x ∷ []) (ys ++ y ∷ [])
-zip_push R [] [] x y h r = (r, h)
-zip_push R [] (v ∷ ys) x y h r = absurd h
-zip_push R (u ∷ xs) [] x y h r = absurd h
-zip_push R (u ∷ xs) (v ∷ ys) x y h r = (h.0, zip_push R xs ys x y h.1 r)
-
 pub zip_more : {X Y : Type 0} (R : X → Y → Type 0) (xs : List X) (ys : List Y) (i : ℕ) (d : X) (y : Y) → i < length xs → AllZip R (take i xs) ys → R (get_or xs i d) y
     → AllZip R (take (i + 1) xs) (ys ++ y ∷ [])
 zip_more R xs ys i d y below h r = subst (λ w. AllZip R w (ys ++ y ∷ [])) (sym (take_more xs i d below)) (zip_push R (take i xs) ys (get_or xs i d) y h r)
@@ -36,10 +31,6 @@ zip_any R P p q same [] [] h all = refl
 zip_any R P p q same [] (v ∷ ys) h all = absurd h
 zip_any R P p q same (u ∷ xs) [] h all = absurd h
 zip_any R P p q same (u ∷ xs) (v ∷ ys) h all = rw (same u v (All-head P u xs all) h.0, zip_any R P p q same xs ys h.1 (All-tail P u xs all)) refl
-
-pub any_map : {X Y : Type 0} (p : Y → Bool) (f : X → Y) (xs : List X) → list_any p (map f xs) ≡ list_any (λ x. p (f x)) xs
-any_map p f [] = refl
-any_map p f (x ∷ xs) = ap (λ b. p (f x) || b) (any_map p f xs)
 
 -- a text is accepted by the old moves, or by the moves that were copied
 pub adds_text : (contents rests : Copies) (moves old new : StateMoves) (p : TextMove → Bool) → AddsMoves contents rests moves old new

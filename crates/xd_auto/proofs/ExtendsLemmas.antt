@@ -36,3 +36,12 @@ keeps a b closed more (element l content rest) s here =
     (λ i d lt.
     let below = (moves_at-closed a s closed here).labels i d lt in
     rw (keeps a b closed more content (get_or (moves_at a s).labels i d).content below.0, keeps a b closed more rest (get_or (moves_at a s).labels i d).rest below.1) refl)
+
+pub extends_itself : (a : Automaton) → Extends a a
+extends_itself a = record { states = λ s h. h; moves = λ s h. refl }
+
+pub extends_then : (a b c : Automaton) → Extends a b → Extends b c → Extends a c
+extends_then a b c g h = record {
+  states = λ s i. h.states s (g.states s i);
+  moves = λ s i. h.moves s (g.states s i) ∙ g.moves s i;
+}

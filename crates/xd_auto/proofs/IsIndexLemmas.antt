@@ -1,5 +1,5 @@
 -- The index of a state's moves by what their classes name.
-use Rattle.std.proofs.Common.{ℕ, ◌+◌, ◌-◌, ◌<◌, ◌≤◌, ◌≡◌, ◌⊎◌, inl, inr, Bool, true, false, ◌||◌, cond, not, List, [], ◌∷◌, ◌++◌, Option, Some, IsSome, Result, Ok, Err, OnErr, Vec, length, take, get_or, ltb, length-append, arith, ap, refl, sym, subst, ◌∙◌}
+use Rattle.std.proofs.Common.{ℕ, ◌+◌, ◌-◌, ◌<◌, ◌≤◌, ◌≡◌, ◌⊎◌, inl, inr, Bool, true, false, ◌||◌, cond, not, List, [], ◌∷◌, ◌++◌, Option, Some, IsSome, Vec, length, take, get_or, ltb, length-append, arith, ap, refl, sym, subst, ◌∙◌}
 use Rattle.std.specs.List.{Contains, list_any}
 use Rattle.std.specs.List.Sorted.{IsNonDecreasing, IsPartitionPoint}
 use Rattle.std.specs.Ordering.{is_eq, nat_cmp}
@@ -132,10 +132,6 @@ IsIndex-none has moves named others e o = record {
 
 pub is_some_found : {X : Type 0} (x : X) (o : Option X) → Some x ≡ o → IsSome o
 is_some_found {X} x o e = subst (λ (w : Option X). IsSome w) e refl
-
-pub OnErr-holds : {T E : Type 0} (r : Result T E) (P : Type 0) → P → OnErr r P
-OnErr-holds (Ok x) P h = tt
-OnErr-holds (Err e) P h = h
 
 module _ (numbers : List ℕ) where
   -- of numbers that rise, those below the one at a place stand before it

@@ -1,31 +1,23 @@
 -- States that accept what one state accepts, followed by what another accepts.
-use Rattle.std.proofs.Common.{ℕ, ◌≡◌, ◌⊎◌, ◌+◌, ◌<◌, Bool, true, false, ◌&&◌, ◌||◌, List, ◌++◌, length, get_or, Some, arith, refl, sym, ap, subst, ◌∙◌, inl, inr}
+use Rattle.std.proofs.Common.{ℕ, ◌≡◌, ◌+◌, ◌<◌, Bool, true, false, ◌&&◌, ◌||◌, List, ◌++◌, length, get_or, Some, arith, refl, sym, ap, subst, ◌∙◌, inl, inr}
 use Rattle.std.proofs.Math.Bool.{or-false}
 use Rattle.std.specs.List.{All, list_any}
+use Rattle.std.proofs.lemmas.Bool.{and_from, or_left, or_right}
+use Rattle.std.proofs.lemmas.Map.Keys.{any_passes_from_place}
 use Rattle.xd_doc.specs.Document.{Document, empty, text, element, join}
 use Rattle.xd_doc.specs.Classes.{class_has}
+use Rattle.xd_doc.proofs.Bools.{and_left, and_right, or_cases}
 use Rattle.xd_auto.specs.declared.auto.State.{State}
 use Rattle.xd_auto.specs.declared.auto.LabelMove.{LabelMove}
 use Rattle.xd_auto.specs.declared.auto.TextMove.{TextMove}
 use Rattle.xd_auto.specs.Automaton.{Automaton, StateMoves, IsState, IsClosed, IsJoined, LeadsBelow, accepts, moves_at, no_moves, takes_element, takes_word}
 use Rattle.xd_auto.specs.Copying.{AddsMoves, AreCopied, AreStateCopies, Copies, HasCopy, IsFrontCopy, IsStateCopy, Reached, copy_of, moved_text, no_copies}
-use Rattle.xd_auto.proofs.Anys.{found, any_at, and_left, and_right, and_both}
+use Rattle.xd_auto.proofs.Anys.{found}
 use Rattle.xd_auto.proofs.Closed.{moves_at-closed, no_moves-below}
 use Rattle.xd_auto.proofs.ExtendsLemmas.{list_any-agree, keeps, Extends-append}
 use Rattle.xd_auto.proofs.Copies.{adds_text, adds_element}
 use Rattle.xd_auto.proofs.FindsMoreLemmas.{state_at}
 use Rattle.xd_auto.proofs.AddsMovesLemmas.{adds_below, stays_below, old_text, old_element, moves_behind, zip_at, zip_length, moved_is, copy_below, start_copy}
-
-or_cases : (x y : Bool) → (x || y) ≡ true → (x ≡ true) ⊎ (y ≡ true)
-or_cases true y e = inl refl
-or_cases false y e = inr e
-
-or_left : (x y : Bool) → x ≡ true → (x || y) ≡ true
-or_left x y e = rw e refl
-
-or_right : (x y : Bool) → y ≡ true → (x || y) ≡ true
-or_right true y e = refl
-or_right false y e = e
 
 -- whether the state accepts a front of the document, and the other state what is left
 abbrev splits : Automaton → State → Document → State → Bool
@@ -43,28 +35,28 @@ splits_element a t l c r m = class_has m.class l && (accepts a c m.content && sp
 
 module _ (a : Automaton) (t : State) where
   splits_here : (d : Document) (s : State) → (moves_at a s).last ≡ true → accepts a d t ≡ true → splits a t d s ≡ true
-  splits_here empty s e h = and_both (moves_at a s).last (moves_at a t).last e h
+  splits_here empty s e h = and_from (moves_at a s).last (moves_at a t).last e h
   splits_here (text c r) s e h =
-      or_right (list_any (splits_word a t c r) (moves_at a s).texts) ((moves_at a s).last && accepts a (text c r) t) (and_both (moves_at a s).last (accepts a (text c r) t) e h)
+      or_right (list_any (splits_word a t c r) (moves_at a s).texts) ((moves_at a s).last && accepts a (text c r) t) (and_from (moves_at a s).last (accepts a (text c r) t) e h)
   splits_here (element l c r) s e h =
-      or_right (list_any (splits_element a t l c r) (moves_at a s).labels) ((moves_at a s).last && accepts a (element l c r) t) (and_both (moves_at a s).last (accepts a (element l c r) t) e h)
+      or_right (list_any (splits_element a t l c r) (moves_at a s).labels) ((moves_at a s).last && accepts a (element l c r) t) (and_from (moves_at a s).last (accepts a (element l c r) t) e h)
 
   splits_joined : (front back : Document) (s : State) → accepts a front s ≡ true → accepts a back t ≡ true → splits a t (join front back) s ≡ true
   splits_joined empty back s h k = splits_here back s h k
   splits_joined (text c r) back s h k =
       let f = found (takes_word a c r) (moves_at a s).texts h in
       or_left (list_any (splits_word a t c (join r back)) (moves_at a s).texts) ((moves_at a s).last && accepts a (text c (join r back)) t)
-      (any_at (splits_word a t c (join r back)) (moves_at a s).texts f.place f.item f.there
-      (and_both (class_has f.item.words c) (splits a t (join r back) f.item.rest) (and_left (class_has f.item.words c) (accepts a r f.item.rest) f.passes)
+      (any_passes_from_place (splits_word a t c (join r back)) (moves_at a s).texts f.place f.item f.there
+      (and_from (class_has f.item.words c) (splits a t (join r back) f.item.rest) (and_left (class_has f.item.words c) (accepts a r f.item.rest) f.passes)
       (splits_joined r back f.item.rest (and_right (class_has f.item.words c) (accepts a r f.item.rest) f.passes) k)))
   splits_joined (element l c r) back s h k =
       let f = found (takes_element a l c r) (moves_at a s).labels h in
       let has = and_left (class_has f.item.class l) (accepts a c f.item.content && accepts a r f.item.rest) f.passes in
       let parts = and_right (class_has f.item.class l) (accepts a c f.item.content && accepts a r f.item.rest) f.passes in
       or_left (list_any (splits_element a t l c (join r back)) (moves_at a s).labels) ((moves_at a s).last && accepts a (element l c (join r back)) t)
-      (any_at (splits_element a t l c (join r back)) (moves_at a s).labels f.place f.item f.there
-      (and_both (class_has f.item.class l) (accepts a c f.item.content && splits a t (join r back) f.item.rest) has
-      (and_both (accepts a c f.item.content) (splits a t (join r back) f.item.rest) (and_left (accepts a c f.item.content) (accepts a r f.item.rest) parts)
+      (any_passes_from_place (splits_element a t l c (join r back)) (moves_at a s).labels f.place f.item f.there
+      (and_from (class_has f.item.class l) (accepts a c f.item.content && splits a t (join r back) f.item.rest) has
+      (and_from (accepts a c f.item.content) (splits a t (join r back) f.item.rest) (and_left (accepts a c f.item.content) (accepts a r f.item.rest) parts)
       (splits_joined r back f.item.rest (and_right (accepts a c f.item.content) (accepts a r f.item.rest) parts) k))))
 
   -- all of it is left to the other state
@@ -88,8 +80,8 @@ module _ (a : Automaton) (t : State) where
               front = text c j.front;
               back = j.back;
               is = ap (λ w. text c w) j.is;
-              front_accepted = any_at (takes_word a c j.front) (moves_at a s).texts f.place f.item f.there
-                  (and_both (class_has f.item.words c) (accepts a j.front f.item.rest) (and_left (class_has f.item.words c) (splits a t r f.item.rest) f.passes) j.front_accepted);
+              front_accepted = any_passes_from_place (takes_word a c j.front) (moves_at a s).texts f.place f.item f.there
+                  (and_from (class_has f.item.words c) (accepts a j.front f.item.rest) (and_left (class_has f.item.words c) (splits a t r f.item.rest) f.passes) j.front_accepted);
               back_accepted = j.back_accepted;
             }
         | inr h ↦ joined_here (text c r) s h
@@ -105,9 +97,9 @@ module _ (a : Automaton) (t : State) where
               front = element l c j.front;
               back = j.back;
               is = ap (λ w. element l c w) j.is;
-              front_accepted = any_at (takes_element a l c j.front) (moves_at a s).labels f.place f.item f.there
-                  (and_both (class_has f.item.class l) (accepts a c f.item.content && accepts a j.front f.item.rest) has
-                  (and_both (accepts a c f.item.content) (accepts a j.front f.item.rest) (and_left (accepts a c f.item.content) (splits a t r f.item.rest) parts) j.front_accepted));
+              front_accepted = any_passes_from_place (takes_element a l c j.front) (moves_at a s).labels f.place f.item f.there
+                  (and_from (class_has f.item.class l) (accepts a c f.item.content && accepts a j.front f.item.rest) has
+                  (and_from (accepts a c f.item.content) (accepts a j.front f.item.rest) (and_left (accepts a c f.item.content) (splits a t r f.item.rest) parts) j.front_accepted));
               back_accepted = j.back_accepted;
             }
         | inr h ↦ joined_here (element l c r) s h

@@ -1,9 +1,11 @@
 -- Moves are tried from one that has the name to the next.
-use Rattle.std.proofs.Common.{ℕ, ◌+◌, ◌<◌, ◌≤◌, ◌≡◌, ◌⊎◌, inl, inr, Bool, true, false, ◌&&◌, ◌||◌, List, length, take, get_or, arith, ap, refl, sym, ◌∙◌}
+use Rattle.std.proofs.Common.{ℕ, ◌+◌, ◌<◌, ◌≡◌, inl, inr, Bool, true, false, ◌&&◌, ◌||◌, List, length, take, get_or, arith, ap, refl, sym, ◌∙◌}
 use Rattle.std.specs.List.{list_any}
 use Rattle.std.proofs.Math.Seq.{take-length}
 use Rattle.std.proofs.lemmas.List.{get_or-take, length-take-le}
 use Rattle.std.proofs.lemmas.List.Folds.{list_any_none, list_any_more, list_any_at}
+use Rattle.std.proofs.lemmas.Bool.{and_left, and_right}
+use Rattle.xd_doc.proofs.Numbers.{below_or_from}
 use Rattle.xd_auto.specs.Automaton.{IsNext}
 
 fails_at : {X : Type 0} (p : X → Bool) (xs : List X) (i : ℕ) (d : X) → i < length xs → list_any p xs ≡ false → p (get_or xs i d) ≡ false
@@ -12,16 +14,6 @@ fails_at p xs i d lt none = go (p (get_or xs i d)) refl
     go : (b : Bool) → p (get_or xs i d) ≡ b → b ≡ false
     go true e = sym (list_any_at p xs i d lt e) ∙ none
     go false e = refl
-
-and_false : (x y : Bool) → x ≡ false → (x && y) ≡ false
-and_false x y e = rw e refl
-
-and_false_right : (x y : Bool) → y ≡ false → (x && y) ≡ false
-and_false_right true y e = e
-and_false_right false y e = refl
-
-below_or_from : (i n : ℕ) → (i < n) ⊎ (n ≤ i)
-below_or_from i n = grind arith
 
 module _ {M : Type 0} (has : M → List ℕ → Bool) (then : M → Bool) (l : List ℕ) (moves : List M) where
   -- the move has the name, and leads on
@@ -42,7 +34,7 @@ module _ {M : Type 0} (has : M → List ℕ → Bool) (then : M → Bool) (l : L
           ∙ elim (below_or_from i from) [
             | inl before ↦ ap leads (sym (get_or-take from moves i d before))
                 ∙ fails_at leads (take from moves) i d (omega (arith, length-take-le from moves (omega (arith, next.after, next.within)))) fails
-            | inr later ↦ and_false (has (get_or moves i d) l) (then (get_or moves i d)) (next.lacks i d later lt)
+            | inr later ↦ and_left (has (get_or moves i d) l) (then (get_or moves i d)) (next.lacks i d later lt)
           ]
 
   -- one more move fails
@@ -52,7 +44,7 @@ module _ {M : Type 0} (has : M → List ℕ → Bool) (then : M → Bool) (l : L
       list_any_more leads moves n step lt
       ∙ ap (λ b. b || leads (get_or moves n step)) fails
       ∙ sym (ap leads is)
-      ∙ and_false_right (has step l) (then step) stuck
+      ∙ and_right (has step l) (then step) stuck
 
   -- no move leads on, where no further move has the label
   pub none_takes : (from : ℕ) → IsNext has moves l from (length moves) → list_any leads (take from moves) ≡ false

@@ -3,16 +3,17 @@ use Rattle.std.proofs.Common.{ℕ, ◌≡◌, true, false, ◌&&◌, List, refl,
 use Rattle.std.proofs.Math.Bool.{or-false}
 use Rattle.std.specs.List.{list_any}
 use Rattle.std.proofs.lemmas.Slice.Eq.{bytes_eq-Decides}
+use Rattle.std.proofs.lemmas.Bool.{and_from}
 use Rattle.xd_doc.specs.Document.{Document, empty, text, element}
 use Rattle.xd_doc.specs.Classes.{class_has}
+use Rattle.xd_doc.proofs.Bools.{and_left, and_right}
 use Rattle.xd_auto.specs.declared.auto.State.{State}
 use Rattle.xd_auto.specs.declared.auto.LabelMove.{LabelMove}
 use Rattle.xd_auto.specs.Automaton.{Automaton, StateMoves, IsState, IsWrapped, KeepsAccepting, accepts, moves_at, no_moves, takes_element, takes_word}
 use Rattle.xd_auto.specs.Copying.{IsAround}
-use Rattle.xd_auto.proofs.Anys.{and_left, and_right, and_both}
 
 -- what has no moves accepts no item
-ends_alone : (b : Automaton) (e : State) → moves_at b e ≡ no_moves true → (d : Document) → accepts b d e ≡ true → d ≡ empty
+pub ends_alone : (b : Automaton) (e : State) → moves_at b e ≡ no_moves true → (d : Document) → accepts b d e ≡ true → d ≡ empty
 ends_alone b e is empty h = refl
 ends_alone b e is (text t r) h =
     let bad : true ≡ false = sym h ∙ ap (λ (m : StateMoves). list_any (takes_word b t r) m.texts) is in absurd (cc)
@@ -45,8 +46,8 @@ module _ (a b : Automaton) (keep : KeepsAccepting a b) (label : List ℕ) (s u e
   wrapped d w =
       let has : class_has around.class label ≡ true = around.just label ∙ (bytes_eq-Decides label label).1 refl in
       let passes : takes_element b label w.inside empty its_move ≡ true =
-      and_both (class_has around.class label) (accepts b w.inside s && accepts b empty e) has
-      (and_both (accepts b w.inside s) (accepts b empty e) (keep w.inside s is ∙ w.accepted) (ap (λ (m : StateMoves). m.last) end)) in
+      and_from (class_has around.class label) (accepts b w.inside s && accepts b empty e) has
+      (and_from (accepts b w.inside s) (accepts b empty e) (keep w.inside s is ∙ w.accepted) (ap (λ (m : StateMoves). m.last) end)) in
       subst (λ (x : Document). accepts b x u ≡ true) (sym w.is) (over_element label w.inside empty ∙ passes)
 
   pub wrap_law : (d : Document) → (accepts b d u ≡ true → IsWrapped a label s d) × (IsWrapped a label s d → accepts b d u ≡ true)

@@ -1,5 +1,5 @@
 -- Answers that are kept: what stays right, and how one is put into a row and into the rows.
-use Rattle.std.proofs.Common.{ℕ, zero, suc, ◌≡◌, ◌≢◌, ◌⊎◌, ◌+◌, ◌*◌, ◌%◌, ◌<◌, ◌≤◌, Bool, true, List, [], ◌∷◌, ◌++◌, length, get_or, set, Some, None, Result, Ok, Err, OnErr, Vec, arith, refl, sym, subst, ap, ◌∙◌, inl, inr}
+use Rattle.std.proofs.Common.{ℕ, zero, suc, ◌≡◌, ◌≢◌, ◌⊎◌, ◌+◌, ◌*◌, ◌%◌, ◌<◌, ◌≤◌, Bool, true, List, [], ◌∷◌, ◌++◌, length, get_or, set, Some, None, Vec, arith, refl, sym, subst, ap, ◌∙◌, inl, inr}
 use Rattle.std.specs.Vec.{vec_capacity}
 use Rattle.std.proofs.lemmas.Bool.{cases_eq}
 use Rattle.std.proofs.lemmas.Nat.Bits.{bit_at-zero}
@@ -156,11 +156,6 @@ module _ {A : Type 0} where
 
 pub answer_from_same : (node s : ℕ) (answer : Bool) (old middle new : Answers) → SameAnswers old middle → KeepsAnswer node s answer middle new → KeepsAnswer node s answer old new
 answer_from_same node s answer old middle new same k = record { there = k.there; others = λ p t o. k.others p t o ∙ same p t }
-
--- what holds holds after a refusal
-pub on_err : {T E : Type 0} {P : Type 0} (r : Result T E) → P → OnErr r P
-on_err (Ok x) h = tt
-on_err (Err e) h = h
 
 -- where nothing is kept, all that is kept is right
 pub nothing_kept : (a : Automaton) (ds : List Document) → AreRight a ds []

@@ -2,15 +2,18 @@
 -- has just these.
 use Rattle.std.proofs.Common.{ℕ, ◌≡◌, true, cond, List, [], ◌∷◌, map, subst}
 use Rattle.std.specs.List.{Contains, flat_map, slice_get}
+use Rattle.std.proofs.lemmas.Bool.{and_from}
+use Rattle.std.proofs.lemmas.Map.Keys.{any_passes_from_place}
 use Rattle.xd_doc.specs.Document.{Document, empty, text, element}
 use Rattle.xd_doc.specs.Classes.{class_has}
+use Rattle.xd_doc.proofs.Bools.{and_left, and_right}
 use Rattle.xd_auto.specs.declared.auto.State.{State}
 use Rattle.xd_auto.specs.declared.auto.LabelMove.{LabelMove}
 use Rattle.xd_auto.specs.declared.auto.TextMove.{TextMove}
 use Rattle.xd_auto.specs.Automaton.{takes_word, takes_element as takes_over, Automaton, accepts, moves_at}
 use Rattle.xd_auto.specs.Runs.{Run, ends, takes_text, takes_element, IsAcceptingRun, AcceptsByRuns, RunsAreAccepting, runs}
 use Rattle.xd_auto.proofs.Members.{in_cond, of_cond, in_each, of_each, in_flat, of_flat, in_map, of_map, first_in, only_in}
-use Rattle.xd_auto.proofs.Anys.{found, any_at, IsSomeAnd-at, IsSomeAnd-parts, and_left, and_right, and_both}
+use Rattle.xd_auto.proofs.Anys.{found, IsSomeAnd-at, IsSomeAnd-parts}
 
 run_of : (a : Automaton) (d : Document) (s : State) → accepts a d s ≡ true → (run : Run) × IsAcceptingRun a d s run
 run_of a empty s e = (ends, e)
@@ -39,17 +42,17 @@ accepted_by a empty s (takes_element n c r) h = absurd h
 accepted_by a (text t rest) s ends h = absurd h
 accepted_by a (text t rest) s (takes_text n r) h =
     let f = IsSomeAnd-parts (slice_get (moves_at a s).texts n) (λ (m : TextMove). (class_has m.words t ≡ true) × IsAcceptingRun a rest m.rest r) h in
-    any_at (takes_word a t rest) (moves_at a s).texts n f.item f.is
-    (and_both (class_has f.item.words t) (accepts a rest f.item.rest) f.holds.0 (accepted_by a rest f.item.rest r f.holds.1))
+    any_passes_from_place (takes_word a t rest) (moves_at a s).texts n f.item f.is
+    (and_from (class_has f.item.words t) (accepts a rest f.item.rest) f.holds.0 (accepted_by a rest f.item.rest r f.holds.1))
 accepted_by a (text t rest) s (takes_element n c r) h = absurd h
 accepted_by a (element l content rest) s ends h = absurd h
 accepted_by a (element l content rest) s (takes_text n r) h = absurd h
 accepted_by a (element l content rest) s (takes_element n c r) h =
     let f = IsSomeAnd-parts (slice_get (moves_at a s).labels n)
     (λ (m : LabelMove). (class_has m.class l ≡ true) × IsAcceptingRun a content m.content c × IsAcceptingRun a rest m.rest r) h in
-    any_at (takes_over a l content rest) (moves_at a s).labels n f.item f.is
-    (and_both (class_has f.item.class l) _ f.holds.0
-    (and_both (accepts a content f.item.content) (accepts a rest f.item.rest)
+    any_passes_from_place (takes_over a l content rest) (moves_at a s).labels n f.item f.is
+    (and_from (class_has f.item.class l) _ f.holds.0
+    (and_from (accepts a content f.item.content) (accepts a rest f.item.rest)
     (accepted_by a content f.item.content c f.holds.1) (accepted_by a rest f.item.rest r f.holds.2)))
 
 -- the runs over a text by one move

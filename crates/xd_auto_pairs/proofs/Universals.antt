@@ -11,7 +11,7 @@ use Rattle.xd_auto.specs.declared.auto.TextMove.{TextMove}
 use Rattle.xd_auto.specs.Automaton.{Automaton, IsState, StateMoves, accepts, moves_at, no_moves, with_label_move, with_moves, with_text_move}
 use Rattle.xd_auto_pairs.specs.Universal.{IsUniversal, every_name}
 
-no_names : (names : List (List ℕ)) → ((l : List ℕ) → is_named names l ≡ false) → names ≡ []
+pub no_names : (names : List (List ℕ)) → ((l : List ℕ) → is_named names l ≡ false) → names ≡ []
 no_names [] h = refl
 no_names (n ∷ names) h =
     let here : pointwise nat_eq n n ≡ true = (bytes_eq-Decides n n).1 refl in

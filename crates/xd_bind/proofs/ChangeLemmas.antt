@@ -33,6 +33,3 @@ text_put old mid new at ms m there h is only =
           ∙ ap (λ (ts : List TextMove). record { last = had.last; labels = had.labels; texts = ts }) (append_assoc had.texts ms (m ∷ []));
       others = λ s ne. only.others s ne ∙ h.others s ne;
     }
-
-pub changes_then : (at : State) (a b c : Automaton) → ChangesOnly at a b → ChangesOnly at b c → ChangesOnly at a c
-changes_then at a b c h k = record { states = k.states ∙ h.states; others = λ s ne. k.others s ne ∙ h.others s ne }

@@ -4,10 +4,12 @@ use Rattle.std.proofs.Math.ListN.{length-set}
 use Rattle.std.specs.List.{All, slice_get}
 use Rattle.std.proofs.lemmas.Bool.{cases_eq}
 use Rattle.std.proofs.lemmas.Option.{slice_get_read, slice_get_within}
+use Rattle.xd_doc.proofs.Lists.{there_front, last_at}
 use Rattle.xd_auto.specs.declared.auto.State.{State}
 use Rattle.xd_auto.specs.declared.auto.LabelMove.{LabelMove}
 use Rattle.xd_auto.specs.declared.auto.TextMove.{TextMove}
 use Rattle.xd_auto.specs.Automaton.{Automaton, StateMoves, IsClosed, IsState, moves_at}
+use Rattle.xd_auto.proofs.Closed.{same_state}
 use Rattle.xd_empty.specs.Parts.{is_marked}
 use Rattle.xd_bind.proofs.MarkLemmas.{unmarked-set}
 use Rattle.xd_auto_pairs.specs.Traces.{Owned}
@@ -15,23 +17,11 @@ use Rattle.xd_bind.specs.Search.{Grows, HasMark, LeadsAhead, over_text, over_ele
 use Rattle.xd_auto_pairs.proofs.Steps.{closed_text, closed_element, some_same}
 use Rattle.xd_bind.specs.Ahead.{IsAhead, is_start, past_text, past_element, in_content, IsSearched}
 
-there_front : {X : Type 0} (xs ys : List X) (i : ℕ) (x : X) → slice_get xs i ≡ Some x → slice_get (xs ++ ys) i ≡ Some x
-there_front [] ys i x e = absurd (cc)
-there_front (y ∷ xs) ys zero x e = e
-there_front (y ∷ xs) ys (suc i) x e = there_front xs ys i x e
-
-there_last : {X : Type 0} (xs : List X) (x : X) → slice_get (xs ++ x ∷ []) (length xs) ≡ Some x
-there_last [] x = refl
-there_last (y ∷ xs) x = there_last xs x
-
 there_more : {X : Type 0} (xs : List X) (x y : X) (i : ℕ) → slice_get (xs ++ x ∷ []) i ≡ Some y → (slice_get xs i ≡ Some y) ⊎ (y ≡ x)
 there_more [] x y zero e = inr (cc)
 there_more [] x y (suc i) e = absurd (cc)
 there_more (z ∷ xs) x y zero e = inl e
 there_more (z ∷ xs) x y (suc i) e = there_more xs x y i e
-
-same_state : (s t : State) → s.number ≡ t.number → s ≡ t
-same_state s t e = ap (λ (n : ℕ). record { number = n }) e
 
 pub Grows-weaker : (K L : State → Type 0) (o : List State) (m : List Bool) (p : List State) (n : List Bool) → ((s : State) → K s → L s) → Grows K o m p n → Grows L o m p n
 Grows-weaker K L o m p n w h = record {
@@ -66,7 +56,7 @@ Grows-visit order marks state here not_yet = record {
   front = λ i s e. there_front order (state ∷ []) i s e;
   news = λ i s e. ⊎_elim (λ old. inl (i, old)) (λ is. inr is) (there_more order state s i e);
   listed = λ all s e. ⊎_elim
-      (λ same. (length order, there_last order state ∙ ap Some (same_state state s (sym same))))
+      (λ same. (length order, last_at order state ∙ ap Some (same_state state s (sym same))))
       (λ ne. let old = all s (sym (get_or-set_other marks state.number s.number true false ne) ∙ e) in (old.0, there_front order (state ∷ []) old.0 s old.1))
       (cases_eq s.number state.number);
   counted = let n = unmarked-set marks state.number here not_yet in omega (arith, length-append order (state ∷ []));

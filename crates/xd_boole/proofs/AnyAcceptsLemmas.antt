@@ -1,8 +1,13 @@
 -- How sets of states refuse a document.
-use Rattle.std.proofs.Common.{ℕ, ◌≡◌, Bool, true, false, ◌||◌, cond, nat_eq, nat_lt, List, [], ◌∷◌, length, refl, sym, ap, ◌∙◌, arith}
+use Rattle.std.proofs.Common.{ℕ, ◌≡◌, Bool, true, false, ◌||◌, cond, nat_eq, nat_lt, List, [], ◌∷◌, length, refl, sym, ap, ◌∙◌, arith, ◌++◌}
 use Rattle.std.specs.List.{AllByRecursion, list_any}
 use Rattle.std.proofs.lemmas.Bool.Decides.{nat_tests}
+use Rattle.std.proofs.lemmas.Bool.{and_from}
+use Rattle.std.proofs.lemmas.List.Folds.{list_any-append}
 use Rattle.xd_doc.specs.Document.{Document}
+use Rattle.xd_doc.proofs.SortedNames.{or_false}
+use Rattle.xd_doc.proofs.Bools.{and_left, and_right, or_swap, or_twice, or_join, or_left, or_right}
+use Rattle.xd_doc.proofs.Numbers.{same_number}
 use Rattle.xd_auto.specs.declared.auto.State.{State}
 use Rattle.xd_auto.specs.Automaton.{Automaton, IsState, accepts}
 use Rattle.xd_boole.specs.Meaning.{any_accepts, has_state, is_state, is_within, with_state, with_states}
@@ -10,10 +15,6 @@ use Rattle.xd_boole.specs.Groups.{AllPass, is_side}
 use Rattle.xd_boole.specs.Points.{MoveBelow}
 use Rattle.xd_auto.specs.declared.auto.LabelMove.{LabelMove}
 use Rattle.xd_boole.specs.Groups.{label_side}
-use Rattle.xd_boole.proofs.Bools.{and_left, and_right, and_both, or_left, or_right, or_join, or_nothing}
-
-pub same_number : (m n : ℕ) → nat_eq m n ≡ true → m ≡ n
-same_number m n e = grind (arith, nat_tests)
 
 -- what all states of a set fail a state of it fails
 pub has_fails : (p : State → Bool) (s : State) (states : List State) → has_state s states ≡ true → list_any p states ≡ false → p s ≡ false
@@ -34,16 +35,6 @@ within_refuses a [] others d h e = refl
 within_refuses a (s ∷ ss) others d h e =
     ap (λ w. w || any_accepts a ss d) (has_refuses a s others d (and_left (has_state s others) (is_within others ss) h) e)
     ∙ within_refuses a ss others d (and_right (has_state s others) (is_within others ss) h) e
-
-or_swap : (x y z : Bool) → (x || (y || z)) ≡ (y || (x || z))
-or_swap true true z = refl
-or_swap true false z = refl
-or_swap false true z = refl
-or_swap false false z = refl
-
-or_twice : (x z : Bool) → (x || z) ≡ (x || (x || z))
-or_twice true z = refl
-or_twice false z = refl
 
 -- what a set with one more state accepts
 pub with_state_accepts : (a : Automaton) (s : State) (states : List State) (d : Document) → any_accepts a (with_state s states) d ≡ (accepts a d s || any_accepts a states d)
@@ -74,7 +65,7 @@ with_states_accept a (s ∷ ss) states d =
     ∙ or_swap (any_accepts a ss d) (accepts a d s) (any_accepts a states d) ∙ sym (or_join (accepts a d s) (any_accepts a ss d) (any_accepts a states d))
 
 pub set_accepts : (a : Automaton) (states : List State) (d : Document) → any_accepts a (with_states states []) d ≡ any_accepts a states d
-set_accepts a states d = with_states_accept a states [] d ∙ or_nothing (any_accepts a states d)
+set_accepts a states d = with_states_accept a states [] d ∙ or_false (any_accepts a states d)
 
 pub with_states_all : (P : State → Type 0) (more states : List State) → AllByRecursion P more → AllByRecursion P states → AllByRecursion P (with_states more states)
 with_states_all P [] states h k = k
@@ -92,4 +83,7 @@ states_are a [] h = tt
 states_are a (s ∷ ss) h = (state_is a s h.0, states_are a ss h.1)
 
 pub side_is : (a : Automaton) (m : LabelMove) → MoveBelow (length a) m → is_side a (label_side m) ≡ true
-side_is a m below = and_both (is_state a m.content) (is_state a m.rest) (is_state_of a m.content below.0) (is_state_of a m.rest below.1)
+side_is a m below = and_from (is_state a m.content) (is_state a m.rest) (is_state_of a m.content below.0) (is_state_of a m.rest below.1)
+
+pub any_accepts_push : (a : Automaton) (us : List State) (s : State) (d : Document) → any_accepts a (us ++ s ∷ []) d ≡ (any_accepts a us d || accepts a d s)
+any_accepts_push a us s d = list_any-append (λ w. accepts a d w) us (s ∷ []) ∙ ap (λ w. any_accepts a us d || w) (or_false (accepts a d s))

@@ -19,7 +19,7 @@ at_front xs ys x d i is lt = ap (λ w. get_or w i d) is ∙ get_or_append_left x
 pub at_end : {X : Type 0} (xs ys : List X) (x d : X) (i : ℕ) → ys ≡ xs ++ x ∷ [] → i ≡ length xs → get_or ys i d ≡ x
 at_end xs ys x d i is e = ap (λ w. get_or w i d) is ∙ ap (λ w. get_or (xs ++ x ∷ []) w d) e ∙ get_or-append_seam xs x [] d
 
-map_number : (xs ys : List State) → map (λ (s : State). s.number) xs ≡ map (λ (s : State). s.number) ys → xs ≡ ys
+pub map_number : (xs ys : List State) → map (λ (s : State). s.number) xs ≡ map (λ (s : State). s.number) ys → xs ≡ ys
 map_number [] [] e = refl
 map_number [] (y ∷ ys) e = absurd (cc)
 map_number (x ∷ xs) [] e = absurd (cc)

@@ -1,5 +1,5 @@
 -- Equations of tests.
-use Rattle.std.proofs.Common.{◌≡◌, Bool, true, false, not, ◌&&◌, ◌||◌, refl, ap, ◌∙◌}
+use Rattle.std.proofs.Common.{◌≡◌, Bool, true, false, not, ◌&&◌, ◌||◌, refl}
 
 pub divided_inside : (x y s t : Bool) → (x && not y) ≡ false → (((x && y) && not (s || t)) || false) ≡ ((x && not s) && not (y && t))
 divided_inside true true true true h0 = refl
@@ -54,18 +54,6 @@ next_one false false true true = refl
 next_one false false true false = refl
 next_one false false false true = refl
 next_one false false false false = refl
-
-pub or_nothing : (b : Bool) → (b || false) ≡ b
-or_nothing true = refl
-or_nothing false = refl
-
-pub or_join : (a b c : Bool) → ((a || b) || c) ≡ (a || (b || c))
-or_join true b c = refl
-or_join false b c = refl
-
-pub and_false : (b : Bool) → (b && false) ≡ false
-and_false true = refl
-and_false false = refl
 
 pub and_over_right : (s x y : Bool) → ((s && x) || (s && y)) ≡ (s && (x || y))
 and_over_right true true true = refl
@@ -125,25 +113,6 @@ either_side false false true false = refl
 either_side false false false true = refl
 either_side false false false false = refl
 
-pub and_left : (x y : Bool) → (x && y) ≡ true → x ≡ true
-and_left true y e = refl
-and_left false y e = e
-
-pub and_right : (x y : Bool) → (x && y) ≡ true → y ≡ true
-and_right true y e = e
-and_right false y e = absurd (cc)
-
-pub and_both : (x y : Bool) → x ≡ true → y ≡ true → (x && y) ≡ true
-and_both x y e f = ap (λ w. w && y) e ∙ f
-
-pub or_left : (x y : Bool) → (x || y) ≡ false → x ≡ false
-or_left true y e = cc
-or_left false y e = refl
-
-pub or_right : (x y : Bool) → (x || y) ≡ false → y ≡ false
-or_right true y e = absurd (cc)
-or_right false y e = e
-
 pub and_more : (x s t : Bool) → ((x && not s) && not t) ≡ (x && not (s || t))
 and_more false s t = refl
 and_more true true t = refl
@@ -172,10 +141,6 @@ pub part_group : (p h k : Bool) → (h && (p && k)) ≡ (p && (h && k))
 part_group true h k = refl
 part_group false true k = refl
 part_group false false k = refl
-
-pub or_true : (b : Bool) → (b || true) ≡ true
-or_true true = refl
-or_true false = refl
 
 pub and_where : (x y z : Bool) → (x ≡ true → y ≡ z) → (x && y) ≡ (x && z)
 and_where true y z e = e refl

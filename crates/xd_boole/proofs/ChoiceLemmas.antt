@@ -3,6 +3,9 @@ use Rattle.std.proofs.Common.{◌≡◌, ℕ, ◌+◌, ◌<◌, ◌≤◌, Bool,
 use Rattle.std.proofs.lemmas.Bool.{not-true}
 use Rattle.std.proofs.lemmas.List.Folds.{list_any_at, list_any-append, list_any_more}
 use Rattle.xd_doc.specs.Document.{Document}
+use Rattle.xd_doc.proofs.SortedNames.{or_false}
+use Rattle.xd_doc.proofs.Bools.{and_left, and_right, or_swap, and_false}
+use Rattle.xd_doc.proofs.Lists.{all_push, all_last}
 use Rattle.xd_auto.specs.Automaton.{Automaton, accepts}
 use Rattle.xd_boole.specs.declared.groups.MoveSide.{MoveSide}
 use Rattle.xd_boole.specs.declared.choices.SideChoice.{SideChoice}
@@ -11,8 +14,8 @@ use Rattle.xd_empty.specs.Parts.{is_marked}
 use Rattle.xd_boole.specs.Groups.{AllPass, is_side, side_accepts}
 use Rattle.xd_boole.specs.Universal.{MarkUniversal}
 use Rattle.xd_boole.specs.Choices.{AddsChoice, AddsContent, AddsRest, AddsSide, AllChoices, CopiesChoices, IsChoiceOf, IsNoChoice, KeepsChoice, any_choice, choice_refuses}
-use Rattle.xd_boole.proofs.Lists.{all_at, all_front, all_last, all_push, any_walked}
-use Rattle.xd_boole.proofs.Bools.{and_false, and_left, and_right, drop_implied, either_side, implied_by, next_one, or_nothing, other_content, other_rest}
+use Rattle.xd_boole.proofs.Lists.{all_at, all_front, any_walked}
+use Rattle.xd_boole.proofs.Bools.{drop_implied, either_side, implied_by, next_one, other_content, other_rest}
 use Rattle.xd_boole.proofs.AnyAcceptsLemmas.{has_refuses, with_state_accepts, with_state_all, within_refuses}
 
 -- the sets of a choice contain those of another
@@ -60,12 +63,6 @@ regroup false true g k = refl
 regroup false false true k = refl
 regroup false false false k = refl
 
-or_swap : (x y z : Bool) → (x || (y || z)) ≡ (y || (x || z))
-or_swap true true z = refl
-or_swap true false z = refl
-or_swap false true z = refl
-or_swap false false z = refl
-
 pub drops_more : (k other : SideChoice) (initial kept new left rest : List SideChoice) → KeepsChoice k other kept new → left ≡ rest ++ other ∷ [] → DropsFirst k initial kept left → DropsFirst k initial new rest
 drops_more k other initial kept new left rest keeps is before = record {
   refused = λ a c d.
@@ -81,7 +78,7 @@ drops_more k other initial kept new left rest keeps is before = record {
 pub drops_all : (k : SideChoice) (initial kept left new : List SideChoice) → left ≡ [] → new ≡ kept ++ k ∷ [] → DropsFirst k initial kept left → AddsChoice k initial new
 drops_all k initial kept left new none is before = record {
   refused = λ a c d.
-      ap (any_choice a c d) is ∙ list_any-append (choice_refuses a c d) kept (k ∷ []) ∙ ap (λ w. any_choice a c d kept || w) (or_nothing (choice_refuses a c d k))
+      ap (any_choice a c d) is ∙ list_any-append (choice_refuses a c d) kept (k ∷ []) ∙ ap (λ w. any_choice a c d kept || w) (or_false (choice_refuses a c d k))
       ∙ ap (λ w. any_choice a c d kept || (any_choice a c d w || choice_refuses a c d k)) (sym none) ∙ before.refused a c d;
   states = λ a h e. subst (AllChoices a) (sym is) (all_push (IsChoiceOf a) kept k (before.states a h) e);
 }
@@ -127,7 +124,7 @@ module _ (universal : List Bool) (side : MoveSide) (k one : SideChoice) (old new
 
 -- what accepts everything can't refuse
 nothing_refused : (o k x : Bool) → x ≡ true → o ≡ (o || (k && not x))
-nothing_refused o k x e = sym (or_nothing o) ∙ ap (λ w. o || w) (sym (ap (λ w. k && not w) e ∙ and_false k))
+nothing_refused o k x e = sym (or_false o) ∙ ap (λ w. o || w) (sym (ap (λ w. k && not w) e ∙ and_false k))
 
 pub content_marked : (universal : List Bool) (side : MoveSide) (k : SideChoice) (old : List SideChoice) → is_marked universal side.content ≡ true → AddsContent universal side k old old
 content_marked universal side k old marked = record {
@@ -201,7 +198,7 @@ pub copies_more : (choices : List SideChoice) (i : ℕ) (k copy : SideChoice) (o
 copies_more choices i k copy old new lt at contents rests is before = record {
   refused = λ a c d.
       ap (any_choice a c d) is ∙ list_any-append (choice_refuses a c d) old (copy ∷ [])
-      ∙ ap (λ w. any_choice a c d old || w) (or_nothing (choice_refuses a c d copy) ∙ copy_refuses a c d k copy contents rests)
+      ∙ ap (λ w. any_choice a c d old || w) (or_false (choice_refuses a c d copy) ∙ copy_refuses a c d k copy contents rests)
       ∙ ap (λ w. w || choice_refuses a c d k) (before.refused a c d)
       ∙ ap (λ w. any_choice a c d (take i choices) || choice_refuses a c d w) at ∙ sym (list_any_more (choice_refuses a c d) choices i k lt);
   states = λ a h. subst (AllChoices a) (sym is) (all_push (IsChoiceOf a) old copy (before.states a h) (copy_states a k copy contents rests (all_at (IsChoiceOf a) choices h i k lt at)));

@@ -17,11 +17,6 @@ pub both_more : {X : Type 0} (p : X → Bool) (xs : List X) (i : ℕ) (x : X) (h
     → ((h && (s && list_any p (take i xs))) || (h && (s && p x))) ≡ (h && (s && list_any p (take (i + 1) xs)))
 both_more p xs i x h s lt at = and_over_right h (s && list_any p (take i xs)) (s && p x) ∙ ap (λ w. h && w) (right_more p xs i x s lt at)
 
-pub and_nothing : (h s : Bool) → (h && (s && false)) ≡ false
-and_nothing true true = refl
-and_nothing true false = refl
-and_nothing false s = refl
-
 -- a group has a state that accepts all that follows
 pub none_taken : (p h s : Bool) → s ≡ true → (p && (h && not s)) ≡ false
 none_taken p h s e = ap (λ w. p && (h && not w)) e ∙ go p h

@@ -4,6 +4,9 @@ use Rattle.std.specs.List.{list_any}
 use Rattle.std.proofs.lemmas.List.Folds.{list_any-append, list_any_more}
 use Rattle.xd_doc.specs.Document.{empty, text, element}
 use Rattle.xd_doc.specs.Classes.{class_has}
+use Rattle.xd_doc.proofs.SortedNames.{or_false}
+use Rattle.xd_doc.proofs.Bools.{and_false_within}
+use Rattle.xd_doc.proofs.Lists.{all_push}
 use Rattle.xd_auto.specs.declared.auto.State.{State}
 use Rattle.xd_auto.specs.declared.auto.LabelMove.{LabelMove}
 use Rattle.xd_auto.specs.declared.auto.TextMove.{TextMove}
@@ -12,12 +15,7 @@ use Rattle.xd_boole.specs.declared.groups.MoveSide.{MoveSide}
 use Rattle.xd_boole.specs.Meaning.{ElementFirst, TextFirst, move_takes, text_takes}
 use Rattle.xd_boole.specs.Groups.{AllPass, label_side, side_accepts}
 use Rattle.xd_boole.specs.Disjoint.{AreDisjoint, AreDisjointSides, AreNearMoves}
-use Rattle.xd_boole.proofs.Bools.{and_false, or_nothing}
-use Rattle.xd_boole.proofs.Lists.{all_at, all_push, any_walked}
-
-pub differ_within : (s h t : Bool) → (s && t) ≡ false → (s && (h && t)) ≡ false
-differ_within s true t e = e
-differ_within s false t e = and_false s
+use Rattle.xd_boole.proofs.Lists.{all_at, any_walked}
 
 module _ (a b : Automaton) where
   -- moves of which no two take the same
@@ -44,7 +42,7 @@ module _ (a b : Automaton) where
       ∙ ap (λ zs. list_any (text_takes a q) (take i items) && list_any (text_takes b q) zs) (sym are) ∙ h q
 
   pub move_disjoint : (part : MoveSide) (m : LabelMove) → AreDisjointSides a b part (label_side m) → (q : ElementFirst) → (side_accepts a q.content q.rest part && move_takes b q m) ≡ false
-  move_disjoint part m apart q = differ_within (side_accepts a q.content q.rest part) (class_has m.class q.label) (side_accepts b q.content q.rest (label_side m)) (apart q.content q.rest)
+  move_disjoint part m apart q = and_false_within (side_accepts a q.content q.rest part) (class_has m.class q.label) (side_accepts b q.content q.rest (label_side m)) (apart q.content q.rest)
 
 -- ---- what is near a part
 
@@ -73,7 +71,7 @@ module _ (a b : Automaton) (part : MoveSide) (items : List LabelMove) where
     pub near_kept : (new : List LabelMove) → new ≡ near ++ x ∷ [] → NearFirst a b part items (i + 1) new
     near_kept new is = record {
       taken = λ q e.
-          ap (list_any (move_takes b q)) is ∙ list_any-append (move_takes b q) near (x ∷ []) ∙ ap (λ w. list_any (move_takes b q) near || w) (or_nothing (move_takes b q x))
+          ap (list_any (move_takes b q)) is ∙ list_any-append (move_takes b q) near (x ∷ []) ∙ ap (λ w. list_any (move_takes b q) near || w) (or_false (move_takes b q x))
           ∙ ap (λ w. w || move_takes b q x) (before.taken q e) ∙ one_more q;
       all = λ p h. subst (AllPass p) (sym is) (all_push (λ w. p w ≡ true) near x (before.all p h) (all_at (λ w. p w ≡ true) items h i x lt at));
     }
@@ -81,7 +79,7 @@ module _ (a b : Automaton) (part : MoveSide) (items : List LabelMove) where
     pub near_dropped : ((q : ElementFirst) → (side_accepts a q.content q.rest part && move_takes b q x) ≡ false) → NearFirst a b part items (i + 1) near
     near_dropped apart = record {
       taken = λ q e.
-          before.taken q e ∙ sym (or_nothing (list_any (move_takes b q) (take i items)))
+          before.taken q e ∙ sym (or_false (list_any (move_takes b q) (take i items)))
           ∙ ap (λ w. list_any (move_takes b q) (take i items) || w) (sym (ap (λ w. w && move_takes b q x) (sym e) ∙ apart q))
           ∙ one_more q;
       all = before.all;

@@ -2,10 +2,13 @@
 use Rattle.std.proofs.Common.{◌≡◌, ℕ, ◌+◌, ◌<◌, length, take, get_or, Bool, true, false, not, ◌&&◌, ◌||◌, List, [], ◌∷◌, ◌++◌, Option, Some, None, refl, sym, ap, ◌∙◌, subst}
 use Rattle.std.specs.List.{list_any}
 use Rattle.std.proofs.lemmas.List.Folds.{list_any-append, list_any_more}
+use Rattle.xd_doc.proofs.SortedNames.{or_false as or_nothing}
+use Rattle.xd_doc.proofs.Bools.{or_join}
+use Rattle.xd_doc.proofs.Lists.{all_push, all_last}
 use Rattle.xd_boole.specs.declared.groups.Group.{Group}
 use Rattle.xd_boole.specs.Groups.{AddsInside, AddsOutside, AllPass, AllSides, Divides, HasSide, IsPartAdded, IsPartBy, any_group, group_refuses}
-use Rattle.xd_boole.proofs.Lists.{all_push, all_front, all_last}
-use Rattle.xd_boole.proofs.Bools.{and_more, divided_inside, divided_both, next_one, or_join, or_nothing}
+use Rattle.xd_boole.proofs.Lists.{all_front}
+use Rattle.xd_boole.proofs.Bools.{and_more, divided_inside, divided_both, next_one}
 
 or_false : (x y : Bool) → (x || (y || false)) ≡ (x || y)
 or_false true y = refl

@@ -9,6 +9,7 @@ use Rattle.xd_auto.specs.declared.auto.State.{State}
 use Rattle.xd_auto.specs.declared.auto.LabelMove.{LabelMove}
 use Rattle.xd_auto.specs.declared.auto.TextMove.{TextMove}
 use Rattle.xd_auto.specs.Automaton.{Automaton, ChangesOnly, IsState, StateMoves, accepts, moves_at, no_moves, state_number, with_label_move, with_text_move}
+use Rattle.xd_empty.proofs.PartLemmas.{changes_trans}
 use Rattle.xd_boole.specs.Merging.{AreStandIns, IsRedirected, RedirectsFirst, RedirectsLabels, RedirectsTexts, redirected, text_redirected, stand_in}
 use Rattle.xd_boole.specs.Meaning.{TellSame, move_takes, text_takes}
 use Rattle.xd_boole.proofs.HasMovesLemmas.{given_moves}
@@ -69,9 +70,6 @@ module _ (a : Automaton) (same : List State) (made : Automaton) (n : ℕ) (stand
 pub stands_within : (same : List State) (s t : State) (old mid : Automaton) → length mid ≡ length old → AllByRecursion (IsState old) same → IsState old s → t ≡ stand_in same s → IsState mid t
 stands_within same s t old mid count all there is = subst (λ n. state_number t < n) (sym count) (subst (IsState old) (sym is) (stand_in_there old same s all there))
 
-changes_then : (s : State) (a b c : Automaton) → ChangesOnly s a b → ChangesOnly s b c → ChangesOnly s a c
-changes_then s a b c one two = record { states = two.states ∙ one.states; others = λ t other. two.others t other ∙ one.others t other }
-
 map_push : {X Y : Type 0} (f : X → Y) (xs : List X) (x : X) → map f (xs ++ x ∷ []) ≡ map f xs ++ f x ∷ []
 map_push f [] x = refl
 map_push f (y ∷ ys) x = ap (λ zs. f y ∷ zs) (map_push f ys x)
@@ -93,7 +91,7 @@ label_given same s moves i m class content rest old mid new lt at k u v there is
     ∙ ap (λ (x : State). let y : LabelMove = record { class = m.class; content = stand_in same m.content; rest = x } in y) v in
     let e : moves_at new s ≡ record (moves_at mid s) { labels = (moves_at mid s).labels ++ given ∷ [] } = given_moves mid new s _ there is in
     record {
-      others = changes_then s old mid new before.others others;
+      others = changes_trans s old mid new before.others others;
       last = ap (λ (x : StateMoves). x.last) e ∙ before.last;
       labels = ap (λ (x : StateMoves). x.labels) e ∙ ap (λ ls. ls ++ given ∷ []) before.labels ∙ map_more (redirected same) (moves_at old s).labels moves i m given lt at same_move;
       texts = ap (λ (x : StateMoves). x.texts) e ∙ before.texts;
@@ -109,7 +107,7 @@ text_given same s moves i m words rest old mid new lt at k v there is others bef
     ∙ ap (λ (x : State). let y : TextMove = record { words = m.words; rest = x } in y) v in
     let e : moves_at new s ≡ record (moves_at mid s) { texts = (moves_at mid s).texts ++ given ∷ [] } = given_moves mid new s _ there is in
     record {
-      others = changes_then s old mid new before.others others;
+      others = changes_trans s old mid new before.others others;
       last = ap (λ (x : StateMoves). x.last) e ∙ before.last;
       labels = ap (λ (x : StateMoves). x.labels) e ∙ before.labels;
       texts = ap (λ (x : StateMoves). x.texts) e ∙ ap (λ ls. ls ++ given ∷ []) before.texts ∙ map_more (text_redirected same) (moves_at old s).texts moves i m given lt at same_move;

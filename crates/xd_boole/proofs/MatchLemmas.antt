@@ -4,13 +4,15 @@ use Rattle.std.specs.Cmp.{both_ways}
 use Rattle.std.specs.List.{list_any}
 use Rattle.std.proofs.lemmas.Bool.Decides.{nat_tests}
 use Rattle.std.proofs.lemmas.List.Folds.{list_any-append, list_any_at, list_any_more}
+use Rattle.xd_doc.proofs.SortedNames.{or_false}
+use Rattle.xd_doc.proofs.Bools.{and_left, or_join, or_true}
+use Rattle.xd_doc.proofs.Lists.{all_push}
 use Rattle.xd_auto.specs.Matching.{AreMatching}
 use Rattle.xd_boole.specs.Groups.{AllPass, passes_at}
 use Rattle.xd_boole.specs.Matching.{AddsThose}
-use Rattle.xd_boole.proofs.Lists.{all_at, all_push}
-use Rattle.xd_boole.proofs.Bools.{and_left, or_join, or_nothing, or_true}
+use Rattle.xd_boole.proofs.Lists.{all_at}
 
-passes_any : {M : Type 0} (t : M → Bool) (ms : List M) (k : ℕ) → passes_at t ms k ≡ true → list_any t ms ≡ true
+pub passes_any : {M : Type 0} (t : M → Bool) (ms : List M) (k : ℕ) → passes_at t ms k ≡ true → list_any t ms ≡ true
 passes_any t [] k e = absurd (cc)
 passes_any t (m ∷ ms) zero e = ap (λ w. w || list_any t ms) e
 passes_any t (m ∷ ms) (suc k) e = ap (λ w. t m || w) (passes_any t ms k e) ∙ or_true (t m)
@@ -128,13 +130,13 @@ passes_there {M} t (n ∷ ms) (suc k) m lt at = passes_there t ms k m (omega ari
 
 -- one of the moves by their numbers was added
 pub adds_none : {M : Type 0} (moves : List M) (numbers : List ℕ) (old : List M) → AddsThose moves (take 0 numbers) old old
-adds_none moves numbers old = record { taken = λ t. sym (or_nothing (list_any t old)); all = λ t h k. h }
+adds_none moves numbers old = record { taken = λ t. sym (or_false (list_any t old)); all = λ t h k. h }
 
 pub adds_more : {M : Type 0} (moves : List M) (numbers : List ℕ) (i k : ℕ) (m : M) (initial old new : List M) → i < length numbers → k ≡ get_or numbers i k → k < length moves → m ≡ get_or moves k m
     → new ≡ old ++ m ∷ [] → AddsThose moves (take i numbers) initial old → AddsThose moves (take (i + 1) numbers) initial new
 adds_more {M} moves numbers i k m initial old new lt at within is added before = record {
   taken = λ t.
-      ap (list_any t) added ∙ list_any-append t old (m ∷ []) ∙ ap (λ w. list_any t old || w) (or_nothing (t m))
+      ap (list_any t) added ∙ list_any-append t old (m ∷ []) ∙ ap (λ w. list_any t old || w) (or_false (t m))
       ∙ ap (λ w. w || t m) (before.taken t) ∙ or_join (list_any t initial) (list_any (passes_at t moves) (take i numbers)) (t m)
       ∙ ap (λ w. list_any t initial || w)
       (ap (λ w. list_any (passes_at t moves) (take i numbers) || w) (sym (passes_there t moves k m within is)) ∙ number_more (passes_at t moves) numbers i k lt at);

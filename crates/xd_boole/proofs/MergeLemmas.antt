@@ -8,6 +8,7 @@ use Rattle.std.proofs.lemmas.List.Elements.{AllZip-push}
 use Rattle.std.specs.Cmp.Lexicographic.{pointwise, same_text}
 use Rattle.xd_doc.specs.Document.{Document, empty, text, element}
 use Rattle.xd_doc.specs.Classes.{NameClass, class_has}
+use Rattle.xd_doc.proofs.Lists.{all_set}
 use Rattle.xd_auto.specs.declared.auto.State.{State}
 use Rattle.xd_auto.specs.Automaton.{Automaton, IsState, accepts, moves_at, state_number}
 use Rattle.xd_boole.specs.declared.merging.Compared.{Compared}
@@ -55,11 +56,6 @@ stand_in_there a same s all there = go same (state_number s) all
     go [] k h = there
     go (x ∷ xs) zero h = h.0
     go (x ∷ xs) (suc k) h = go xs k h.1
-
-all_set : {X : Type 0} (P : X → Type 0) (xs : List X) (k : ℕ) (x : X) → AllByRecursion P xs → P x → AllByRecursion P (set xs k x)
-all_set P [] k x h p = tt
-all_set P (y ∷ ys) zero x h p = (p, h.1)
-all_set P (y ∷ ys) (suc k) x h p = (h.0, all_set P ys k x h.1 p)
 
 -- one more state that stands in for itself
 pub itself_push : (xs : List State) (t s : State) → state_number t ≡ length xs → stand_in xs s ≡ s → stand_in (xs ++ t ∷ []) s ≡ s

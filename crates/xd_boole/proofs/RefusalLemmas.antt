@@ -4,6 +4,9 @@ use Rattle.std.specs.List.{list_any}
 use Rattle.std.proofs.lemmas.List.Folds.{list_any-append}
 use Rattle.xd_doc.specs.ClassForms.{IsPart}
 use Rattle.xd_doc.specs.Classes.{LabelClass, class_has}
+use Rattle.xd_doc.proofs.Bools.{and_true, and_not_or}
+use Rattle.xd_doc.proofs.SortedNames.{or_false}
+use Rattle.xd_doc.proofs.Lists.{all_push, all_last}
 use Rattle.xd_auto.specs.declared.auto.LabelMove.{LabelMove}
 use Rattle.xd_auto.specs.Automaton.{Automaton}
 use Rattle.xd_boole.specs.declared.choices.SideChoice.{SideChoice}
@@ -15,8 +18,7 @@ use Rattle.xd_boole.specs.Groups.{is_side, label_side, side_accepts}
 use Rattle.xd_boole.specs.Choices.{AllChoices, CopiesChoices, ExtendsAll, any_choice}
 use Rattle.xd_boole.specs.Refusals.{AddsRefusals, AllRefusals, LeadInside, Narrows, NarrowsMore, Parts, any_refused, is_refused_by, label_refused}
 use Rattle.xd_boole.specs.Universal.{MarkUniversal}
-use Rattle.xd_boole.proofs.Lists.{all_at, all_front, all_last, all_push, any_walked}
-use Rattle.xd_boole.proofs.Bools.{or_nothing}
+use Rattle.xd_boole.proofs.Lists.{all_at, all_front, any_walked}
 use Rattle.xd_boole.proofs.DividesLemmas.{divided_by_more}
 
 -- on the labels of the class one move more is to be refused
@@ -30,11 +32,6 @@ extended_tells true true true = refl
 extended_tells true true false = refl
 extended_tells true false true = refl
 extended_tells true false false = refl
-
-pushed_tells : (c l s : Bool) → (c && not (l || s)) ≡ ((c && not l) && not s)
-pushed_tells false l s = refl
-pushed_tells true true s = refl
-pushed_tells true false s = refl
 
 apart_here : (h k : Bool) → h ≡ true → (h && k) ≡ false → k ≡ false
 apart_here h k e f = sym (ap (λ w. w && k) e) ∙ f
@@ -69,8 +66,8 @@ module _ (universal : List Bool) (class : LabelClass) (m : LabelMove) (old : Nar
     refused = λ a u q has.
         ap (λ ks. any_choice a q.content q.rest ks && not (list_any (move_takes a q) new.moves.items)) same
         ∙ ap (λ w. any_choice a q.content q.rest old.choices.items && not w)
-        (ap (list_any (move_takes a q)) more ∙ list_any-append (move_takes a q) old.moves.items (m ∷ []) ∙ ap (λ w. list_any (move_takes a q) old.moves.items || w) (or_nothing (move_takes a q m)))
-        ∙ pushed_tells (any_choice a q.content q.rest old.choices.items) (list_any (move_takes a q) old.moves.items) (move_takes a q m);
+        (ap (list_any (move_takes a q)) more ∙ list_any-append (move_takes a q) old.moves.items (m ∷ []) ∙ ap (λ w. list_any (move_takes a q) old.moves.items || w) (or_false (move_takes a q m)))
+        ∙ and_not_or (any_choice a q.content q.rest old.choices.items) (list_any (move_takes a q) old.moves.items) (move_takes a q m);
     states = λ a h s. subst (AllChoices a) (sym same) h;
     inside = λ a h s. subst (LeadInside a) (sym more) (all_push (λ w. is_side a (label_side w) ≡ true) old.moves.items m h s);
     fewer = let e = ap (λ (ms : List LabelMove). length ms) more in omega (arith, e, length-append old.moves.items (m ∷ []));
@@ -124,10 +121,10 @@ parts_half universal choices moves depth p less copies same = record {
 
 -- it is divided by the last move
 taken_here : (c l t s : Bool) → t ≡ s → ((c && not s) && not l) ≡ (c && not (l || t))
-taken_here c l t s e = extended_tells c l s ∙ sym (pushed_tells c l s) ∙ ap (λ w. c && not (l || w)) (sym e)
+taken_here c l t s e = extended_tells c l s ∙ sym (and_not_or c l s) ∙ ap (λ w. c && not (l || w)) (sym e)
 
 left_out : (c l t : Bool) → t ≡ false → (c && not l) ≡ (c && not (l || t))
-left_out c l t e = ap (λ w. c && not w) (sym (or_nothing l) ∙ ap (λ w. l || w) (sym e))
+left_out c l t e = ap (λ w. c && not w) (sym (or_false l) ∙ ap (λ w. l || w) (sym e))
 
 pub parts_last : (universal : List Bool) (choices copies : List SideChoice) (rest : List LabelMove) (m : LabelMove) (moves : List LabelMove) (depth : ℕ) (p : Parted) → CopiesChoices choices copies → ExtendsAll universal (label_side m) copies p.choices.items
     → moves ≡ rest ++ m ∷ [] → p.moves.items ≡ rest → p.part ≡ m.class → p.depth ≡ depth → Parts universal choices moves depth p
@@ -154,7 +151,7 @@ parts_last universal choices copies rest m moves depth p copied extends is left 
 }
   where
     whole : (a : Automaton) (q : ElementFirst) → list_any (move_takes a q) moves ≡ (list_any (move_takes a q) rest || move_takes a q m)
-    whole a q = ap (list_any (move_takes a q)) is ∙ list_any-append (move_takes a q) rest (m ∷ []) ∙ ap (λ w. list_any (move_takes a q) rest || w) (or_nothing (move_takes a q m))
+    whole a q = ap (list_any (move_takes a q)) is ∙ list_any-append (move_takes a q) rest (m ∷ []) ∙ ap (λ w. list_any (move_takes a q) rest || w) (or_false (move_takes a q m))
 
 -- nothing is refused by no choice
 adds_nothing : (o h r : Bool) → (h ≡ true → r ≡ false) → o ≡ (o || (h && r))
@@ -167,14 +164,10 @@ same_where true h x y e = refl
 same_where false true x y e = e refl
 same_where false false x y e = refl
 
-and_true : (b : Bool) → (b && true) ≡ b
-and_true true = refl
-and_true false = refl
-
 both_parts : (o h t ri ro r : Bool) → (h ≡ true → t ≡ true → ri ≡ r) → (h ≡ true → t ≡ false → ro ≡ r) → ((o || ((h && t) && ri)) || ((h && not t) && ro)) ≡ (o || (h && r))
 both_parts true h t ri ro r e f = refl
 both_parts false false t ri ro r e f = refl
-both_parts false true true ri ro r e f = or_nothing ri ∙ e refl refl
+both_parts false true true ri ro r e f = or_false ri ∙ e refl refl
 both_parts false true false ri ro r e f = f refl refl
 
 module _ (a : Automaton) (universal : List Bool) (u : MarkUniversal a universal) (class : LabelClass) (choices : List SideChoice) (moves : List LabelMove) (n : Narrowed) (narrows : Narrows universal class choices moves n) where
@@ -191,7 +184,7 @@ module _ (a : Automaton) (universal : List Bool) (u : MarkUniversal a universal)
   pub refused_one : (old new : List LabelRefusal) (g : LabelRefusal) → new ≡ old ++ g ∷ [] → g.class ≡ class → g.choices.items ≡ n.choices.items → n.moves.items ≡ [] → AllChoices a choices → LeadInside a moves → AddsRefusals a class choices moves old new
   refused_one old new g is here same none h k = record {
     taken = λ q.
-        ap (any_refused a q) is ∙ list_any-append (label_refused a q) old (g ∷ []) ∙ ap (λ w. any_refused a q old || w) (or_nothing (label_refused a q g))
+        ap (any_refused a q) is ∙ list_any-append (label_refused a q) old (g ∷ []) ∙ ap (λ w. any_refused a q old || w) (or_false (label_refused a q g))
         ∙ ap (λ (c : LabelClass). any_refused a q old || (class_has c q.label && any_choice a q.content q.rest g.choices.items)) here
         ∙ same_where (any_refused a q old) (class_has class q.label) (any_choice a q.content q.rest g.choices.items) (is_refused_by a q choices moves)
         (λ has.

@@ -1,10 +1,12 @@
 -- On states that accept every document.
 use Rattle.std.proofs.Common.{ℕ, ◌≡◌, Bool, true, false, not, ◌&&◌, ◌||◌, ◌==◌, cond, nat_eq, List, [], ◌∷◌, ◌++◌, length, inl, inr, refl, sym, ap, ◌∙◌, subst, eq-eqb, arith}
 use Rattle.std.specs.List.{AllByRecursion, list_any}
-use Rattle.std.proofs.lemmas.Bool.{cases_lt}
+use Rattle.std.proofs.lemmas.Bool.{cases_lt, and_from}
 use Rattle.std.proofs.lemmas.List.{get_or_past}
 use Rattle.xd_doc.specs.Document.{Document, empty, text, element}
 use Rattle.xd_doc.specs.Classes.{NameClass, class_has, is_named}
+use Rattle.xd_doc.proofs.Bools.{and_left, and_right, or_true}
+use Rattle.xd_doc.proofs.Numbers.{same_number}
 use Rattle.xd_auto.specs.declared.auto.State.{State}
 use Rattle.xd_auto.specs.declared.auto.LabelMove.{LabelMove}
 use Rattle.xd_auto.specs.declared.auto.TextMove.{TextMove}
@@ -13,8 +15,6 @@ use Rattle.xd_empty.specs.Parts.{is_marked}
 use Rattle.xd_boole.specs.Meaning.{any_accepts, has_state}
 use Rattle.xd_boole.specs.Universal.{AcceptsAll, MarkUniversal, TakesAll, has_all, leads_all, text_leads_all}
 use Rattle.xd_boole.proofs.ArePointsLemmas.{at_end, at_front, place_cases}
-use Rattle.xd_boole.proofs.Bools.{and_both, and_left, and_right, or_true}
-use Rattle.xd_boole.proofs.AnyAcceptsLemmas.{same_number}
 
 all_has : (c : NameClass) (x : List ℕ) → has_all c ≡ true → class_has c x ≡ true
 all_has c x e = go c.except c.names e
@@ -46,14 +46,14 @@ module _ (a : Automaton) (states : List State) (all : AllByRecursion (TakesAll a
   take_all empty s h = (of_each (TakesAll a states) s states all h).last
   take_all (text t d) s h =
       any_implies (text_leads_all states) (λ (m : TextMove). class_has m.words t && accepts a d m.rest) (moves_at a s).texts
-      (λ m e. and_both (class_has m.words t) (accepts a d m.rest) (all_has m.words t (and_left (has_all m.words) (has_state m.rest states) e)) (take_all d m.rest (and_right (has_all m.words) (has_state m.rest states) e)))
+      (λ m e. and_from (class_has m.words t) (accepts a d m.rest) (all_has m.words t (and_left (has_all m.words) (has_state m.rest states) e)) (take_all d m.rest (and_right (has_all m.words) (has_state m.rest states) e)))
       (of_each (TakesAll a states) s states all h).texts
   take_all (element l c d) s h =
       any_implies (leads_all states) (λ (m : LabelMove). class_has m.class l && (accepts a c m.content && accepts a d m.rest)) (moves_at a s).labels
       (λ m e.
       let both = and_right (has_all m.class) (has_state m.content states && has_state m.rest states) e in
-      and_both (class_has m.class l) (accepts a c m.content && accepts a d m.rest) (all_has m.class l (and_left (has_all m.class) (has_state m.content states && has_state m.rest states) e))
-      (and_both (accepts a c m.content) (accepts a d m.rest) (take_all c m.content (and_left (has_state m.content states) (has_state m.rest states) both)) (take_all d m.rest (and_right (has_state m.content states) (has_state m.rest states) both))))
+      and_from (class_has m.class l) (accepts a c m.content && accepts a d m.rest) (all_has m.class l (and_left (has_all m.class) (has_state m.content states && has_state m.rest states) e))
+      (and_from (accepts a c m.content) (accepts a d m.rest) (take_all c m.content (and_left (has_state m.content states) (has_state m.rest states) both)) (take_all d m.rest (and_right (has_state m.content states) (has_state m.rest states) both))))
       (of_each (TakesAll a states) s states all h).labels
 
 pub has_itself : (s : State) (states : List State) → has_state s (s ∷ states) ≡ true

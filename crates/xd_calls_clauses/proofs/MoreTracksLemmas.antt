@@ -1,16 +1,17 @@
 -- Tracks are added, and say what the marks say: what stands together by these stands together by
 -- the tracks.
-use Rattle.std.proofs.Common.{◌≡◌, ◌⊎◌, inl, inr, ℕ, ◌+◌, ◌<◌, ◌≤◌, Bool, true, false, ◌||◌, List, [], ◌∷◌, ◌++◌, length, get_or, arith, refl, sym, ap, subst, ◌∙◌}
+use Rattle.std.proofs.Common.{◌≡◌, ◌⊎◌, inl, inr, ℕ, ◌+◌, ◌<◌, ◌≤◌, true, false, List, [], ◌∷◌, ◌++◌, length, get_or, arith, refl, sym, ap, subst, ◌∙◌}
 use Rattle.std.specs.List.{All}
-use Rattle.std.proofs.lemmas.Bool.{cases_lt, eqb-true, eq-eqb}
+use Rattle.std.proofs.lemmas.Bool.{cases_lt, eqb-true, eq-eqb, and_from, or_left, or_right}
 use Rattle.std.proofs.lemmas.List.Elements.{All-push}
 use Rattle.std.proofs.lemmas.List.Folds.{list_any-append}
 use Rattle.std.proofs.lemmas.Option.{slice_get_within}
 use Rattle.xd_doc.specs.Document.{Document, empty, text, element}
+use Rattle.xd_doc.proofs.Bools.{and_left, and_right, same_tests}
 use Rattle.xd_auto.specs.declared.auto.State.{State}
 use Rattle.xd_auto.specs.Automaton.{Automaton, IsClosed, IsState, moves_at}
 use Rattle.xd_auto.specs.Runs.{Run, ends, takes_text, takes_element, IsAcceptingRun}
-use Rattle.xd_auto.proofs.Anys.{and_both, and_left, and_right, found}
+use Rattle.xd_auto.proofs.Anys.{found}
 use Rattle.xd_auto_pairs.specs.declared.kind.MoveKind.{MoveKind}
 use Rattle.xd_auto_pairs.specs.declared.kind.MoveKind.TheVariants as M
 use Rattle.xd_auto_pairs.specs.Traces.{IsTogether, KeepsTogether, Owned, after_element, after_text, at_element, at_text, in_element, trace_of}
@@ -25,13 +26,6 @@ use Rattle.xd_calls_clauses.specs.Tracked.{IsOfMove, IsOfMoves, IsOfStates, IsTr
 
 -- ---- tracks are added
 
-or_left : (x y : Bool) → x ≡ true → (x || y) ≡ true
-or_left x y e = rw e refl
-
-or_right : (x y : Bool) → y ≡ true → (x || y) ≡ true
-or_right true y e = refl
-or_right false y e = e
-
 same_kind : (k : MoveKind) → is_kind k k ≡ true
 same_kind M.Label = refl
 same_kind M.Text = refl
@@ -45,8 +39,8 @@ kinds_same M.Text M.Text e = refl
 -- a track is that of its own move and variable
 own_track : (t : Track) → is_track t.variable t.kind t.state t.number t ≡ true
 own_track t =
-    and_both (is_kind t.kind t.kind) _ (same_kind t.kind)
-    (and_both _ _ (eq-eqb t.state.number t.state.number refl) (and_both _ _ (eq-eqb t.number t.number refl) (eq-eqb t.variable t.variable refl)))
+    and_from (is_kind t.kind t.kind) _ (same_kind t.kind)
+    (and_from _ _ (eq-eqb t.state.number t.state.number refl) (and_from _ _ (eq-eqb t.number t.number refl) (eq-eqb t.variable t.variable refl)))
 
 abbrev numbered : ℕ → State
 numbered i = record { number = i }
@@ -175,11 +169,6 @@ module _ (a : Automaton) (b c : Owned) (closed : IsClosed a)
   together_agree : (start : State) → IsState a start → KeepsTogether a b start → KeepsTogether a c start
   together_agree start here keeps d run acc = subst IsTogether (traces_agree d start run here acc) (keeps d run acc)
 
-same_bools : (p q : Bool) → (p ≡ true → q ≡ true) → (q ≡ true → p ≡ true) → p ≡ q
-same_bools true q f g = sym (f refl)
-same_bools false true f g = g refl
-same_bools false false f g = refl
-
 -- tracks of all moves, and the marks
 module _ (a : Automaton) (m : Marked) (ts : List Track) (closed : IsClosed a) (more : MoreTracks a m (IsOfStates a (length a) (length (variables_in m))) [] ts) where
   pub all_true : All (IsTrue a m) ts
@@ -202,7 +191,7 @@ module _ (a : Automaton) (m : Marked) (ts : List Track) (closed : IsClosed a) (m
       (subst (λ i. is_held m (record { number = i }) t.kind t.number t.variable ≡ true) (sym state) is.held)))
 
   held_has : (s : State) (k : MoveKind) (n x : ℕ) → IsOfStates a (length a) (length (variables_in m)) s k n x → is_held m s k n x ≡ has_track ts x k s n
-  held_has s k n x here = same_bools (is_held m s k n x) (has_track ts x k s n) (more.whole s k n x here) (has_held s k n x)
+  held_has s k n x here = same_tests (is_held m s k n x) (has_track ts x k s n) (more.whole s k n x here) (has_held s k n x)
 
   pub tracked_together : (x : ℕ) → x < length (variables_in m) → (start : State) → IsState a start → KeepsTogether a (moves_of (marking_of m) (get_or (variables_in m) x [])) start
       → KeepsTogether a (owned_by ts x) start

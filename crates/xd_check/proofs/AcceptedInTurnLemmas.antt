@@ -5,23 +5,17 @@ use Rattle.std.specs.List.{AllByRecursion, list_any}
 use Rattle.std.specs.Cmp.Lexicographic.{pointwise}
 use Rattle.std.proofs.lemmas.Slice.Eq.{bytes_eq-Decides}
 use Rattle.std.proofs.lemmas.List.{get_or-set_same, get_or_at}
+use Rattle.std.proofs.lemmas.Bool.{and_from}
 use Rattle.xd_doc.specs.Document.{Document, empty, text, element}
 use Rattle.xd_doc.specs.Classes.{TextClass, class_has, is_named}
+use Rattle.xd_doc.proofs.Bools.{and_left, and_right}
 use Rattle.xd_auto.specs.declared.auto.State.{State}
 use Rattle.xd_auto.specs.declared.auto.TextMove.{TextMove}
 use Rattle.xd_auto.specs.Automaton.{Automaton, ChangesOnly, Extends, IsClosed, IsJoined, IsState, KeepsAccepting, StateMoves, accepts, moves_at, no_moves, state_number, with_text_move, takes_element, takes_word}
 use Rattle.xd_auto.proofs.ExtendsLemmas.{keeps}
-use Rattle.xd_auto.proofs.Anys.{and_left, and_right, and_both}
+use Rattle.xd_auto.proofs.IsWrappedLemmas.{ends_alone}
 use Rattle.xd_check.specs.Walked.{AcceptedInTurn, Grows}
 use Rattle.xd_check.proofs.GrowsLemmas.{grows_then}
-
--- a state that has no moves and is last accepts the empty document alone
-pub ends_alone : (b : Automaton) (e : State) → moves_at b e ≡ no_moves true → (d : Document) → accepts b d e ≡ true → d ≡ empty
-ends_alone b e is empty h = refl
-ends_alone b e is (text t r) h =
-    let bad : true ≡ false = sym h ∙ ap (λ (m : StateMoves). list_any (takes_word b t r) m.texts) is in absurd (cc)
-ends_alone b e is (element l c r) h =
-    let bad : true ≡ false = sym h ∙ ap (λ (m : StateMoves). list_any (takes_element b l c r) m.labels) is in absurd (cc)
 
 -- a state that has no moves and is not last accepts nothing
 pub never : (b : Automaton) (e : State) → moves_at b e ≡ no_moves false → (d : Document) → accepts b d e ≡ true → ⊥
@@ -58,7 +52,7 @@ module _ (b : Automaton) (s : List ℕ) (w : TextClass) (start end : State) (onl
   the_text : accepts b (text s empty) start ≡ true
   the_text =
       over_text s empty
-      ∙ and_both (class_has w s) (accepts b empty end) (only s ∙ (bytes_eq-Decides s s).1 refl) (ap (λ (m : StateMoves). m.last) last)
+      ∙ and_from (class_has w s) (accepts b empty end) (only s ∙ (bytes_eq-Decides s s).1 refl) (ap (λ (m : StateMoves). m.last) last)
 
   pub text_law : (d : Document) → (accepts b d start ≡ true) ↔ (d ≡ text s empty)
   text_law d = (one_text d, λ e. subst (λ x. accepts b x start ≡ true) (sym e) the_text)

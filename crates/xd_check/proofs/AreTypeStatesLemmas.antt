@@ -2,6 +2,7 @@
 use Rattle.std.proofs.Common.{◌≡◌, ◌↔◌, ◌+◌, true, List, [], ◌∷◌, ◌++◌, map, length, ap, sym, subst, ◌∙◌, arith, append-nil, append_assoc, length-append}
 use Rattle.std.specs.List.{AllByRecursion}
 use Rattle.std.proofs.lemmas.List.{length-map}
+use Rattle.xd_doc.proofs.Lists.{all_append}
 use Rattle.xd_auto.specs.declared.auto.State.{State}
 use Rattle.xd_auto.specs.Automaton.{Automaton, accepts}
 use Rattle.xd_syntax.specs.PlacedTable.{placed_at}
@@ -17,7 +18,7 @@ use Rattle.xd_meaning.specs.KeptFaults.{AllPaired}
 use Rattle.xd_patterns.specs.CompiledProgram.{AcceptsType}
 use Rattle.xd_check.specs.declared.signatures.Signature.{Signature}
 use Rattle.xd_check.specs.Signed.{AreParameters, HasParameters, IsSignature, IsTypeState, states_signed, types_declared, types_of}
-use Rattle.xd_check.proofs.Lists.{all_append, all_map}
+use Rattle.xd_check.proofs.Lists.{all_map}
 
 -- the types that functions declare belong to the program
 declared_there : (p : ProgramTable) (fs : List FunctionRow) → AllByRecursion (FunctionStands p.types p.exprs) fs → AllByRecursion (BelongsTo p.types) (types_declared fs)

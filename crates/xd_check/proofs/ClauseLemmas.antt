@@ -10,18 +10,15 @@ use Rattle.xd_auto.specs.Automaton.{Automaton, IsState, accepts}
 use Rattle.xd_syntax.specs.Words.{has_word}
 use Rattle.xd_syntax.specs.Tree.{Definitions, occurrences}
 use Rattle.xd_syntax.specs.Placed.{PlacedTree, unplaced, variables, place_of}
-use Rattle.xd_meaning.specs.Bindings.{each_once, variables_of}
+use Rattle.xd_meaning.specs.Bindings.{variables_of}
 use Rattle.xd_syntax.specs.Ways.{Takes}
-use Rattle.xd_syntax.specs.NameFaults.{without}
 use Rattle.xd_syntax.specs.Expression.{Expression, Matched, Clauses, no_clause, clause}
 use Rattle.xd_syntax.specs.Program.{ProgramTree, names_of}
 use Rattle.xd_syntax.specs.May.{Scope, clause_entry, Allows, Arrives, IsLive, May, MayBind, WhereTrue}
 use Rattle.xd_laws.specs.Scopes.{MayClauses}
 use Rattle.xd_syntax.specs.CheckFaults.{Line, Comes, IsLiveIn, LineWhere, LinesOf, LinesOfClauses, dead_clause, not_exhaustive}
 use Rattle.xd_laws.proofs.Unfoldings.{same_word_eq}
-use Rattle.xd_laws.proofs.OrderedBindings.{has_once}
-use Rattle.xd_laws.proofs.LinearPatterns.{left_without}
-use Rattle.xd_laws.proofs.WordLists.{either, or_left, or_right}
+use Rattle.xd_laws.proofs.OrderedBindings.{has_once, once_has}
 use Rattle.xd_check.specs.declared.lines.FoundLine.{FoundLine}
 use Rattle.xd_check.specs.declared.variables.Variable.{Variable}
 use Rattle.xd_laws.proofs.SameScopes.{line_within}
@@ -30,17 +27,6 @@ use Rattle.xd_check.specs.InScope.{AcceptedBy, ScopeStands, state_of}
 use Rattle.xd_check.specs.Walked.{AcceptedBySome, AcceptsJust, AreClausesWalked, ComesBehind, ComesTo, Grows, IsClauseWalked, IsWalked, LinesOfClause, with_found}
 use Rattle.xd_check.proofs.LineLists.{adds_as, adds_both}
 use Rattle.xd_check.proofs.AddsLinesLemmas.{Goes, goes_begin, goes_end, goes_more}
-
--- a word of the list stands among its words, each once
-once_has : (xs : List (List ℕ)) (x : List ℕ) → has_word xs x ≡ true → has_word (each_once xs) x ≡ true
-once_has [] x h = h
-once_has (y ∷ ys) x h =
-    elim (either (bytes_eq y x) (has_word ys x) h) [
-      | inl a ↦ or_left (bytes_eq y x) (has_word (without (y ∷ []) (each_once ys)) x) a
-      | inr b ↦
-          or_right (bytes_eq y x) (has_word (without (y ∷ []) (each_once ys)) x)
-          (left_without (y ∷ []) (each_once ys) x (once_has ys x b.1) (rw b.0 refl))
-    ]
 
 -- the same documents come
 pub comes_like : (P : ProgramTree) (S : Scope) (e : Expression) (earlier : List PlacedTree) (C D : Document → Type 0) → ((d : Document) → D d ↔ C d) → ComesBehind P S e earlier C → ComesBehind P S e earlier D

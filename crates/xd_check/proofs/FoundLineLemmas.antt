@@ -3,6 +3,7 @@ use Rattle.std.proofs.Common.{◌≡◌, ℕ, ◌+◌, ◌<◌, List, [], ◌∷
 use Rattle.std.proofs.lemmas.List.{drop_more}
 use Rattle.xd_base.specs.declared.Place.{Place}
 use Rattle.xd_doc.specs.Document.{Document}
+use Rattle.xd_doc.proofs.Options.{some_same}
 use Rattle.xd_syntax.specs.CheckFaults.{faults_among}
 use Rattle.xd_syntax.specs.declared.fault.Fault.{Fault}
 use Rattle.xd_syntax.specs.declared.fault.Warning.{Warning}
@@ -19,9 +20,6 @@ FaultsTell ds ls fs = AllPaired (IsFaultOf ds) (faults_among (lines_of ds ls)) f
 
 abbrev pub WarningsTell : List Document → List FoundLine → List Warning → Type 0
 WarningsTell ds ls ws = AllPaired IsWarningOf (warnings_among (lines_of ds ls)) ws
-
-some_same : {A : Type 0} (x y : A) → Some x ≡ Some y → x ≡ y
-some_same x y e = cc
 
 -- one more line that is a fault
 fault_told : (ds : List Document) (p : Place) (f : Finding) (k : FaultKind) (ls : List FoundLine) → fault_kind_of f ≡ Some k → FindingBelongs ds f → (fs : List Fault) → FaultsTell ds ls fs →

@@ -3,6 +3,7 @@ use Rattle.std.proofs.Common.{◌≡◌, ℕ, zero, suc, ◌+◌, ◌<◌, List,
 use Rattle.std.proofs.lemmas.List.{drop_more, get_or_default}
 use Rattle.xd_doc.specs.Document.{Document}
 use Rattle.xd_doc.specs.StoreNodes.{Keeps}
+use Rattle.xd_doc.proofs.StoredLemmas.{Keeps-same, Keeps-trans}
 use Rattle.xd_auto.specs.Automaton.{Automaton}
 use Rattle.xd_syntax.specs.Kept.{ProgramTable, function_definition, program_tree}
 use Rattle.xd_syntax.specs.FunctionRow.{FunctionRow}
@@ -16,7 +17,7 @@ use Rattle.xd_check.specs.Signed.{IsSignature}
 use Rattle.xd_check.specs.Ready.{AddsLinesOfFunction}
 use Rattle.xd_check.specs.Walked.{Grows}
 use Rattle.xd_check.proofs.AddsLinesLemmas.{Goes, goes_begin, goes_end, goes_more}
-use Rattle.xd_check.proofs.GrowsLemmas.{grows_none, grows_then, keeps_same, keeps_then}
+use Rattle.xd_check.proofs.GrowsLemmas.{grows_none, grows_then}
 use Rattle.xd_check.proofs.LineLists.{adds_none}
 
 -- the functions from the n-th on are still to be walked
@@ -26,7 +27,7 @@ pub record FunctionsLoop (p : ProgramTable) (a b : Automaton) (ds es : List Docu
   pub lines : AddsLines es (Goes (LinesOfFunctions told_size (program_tree p) (map (function_definition p) (drop n p.functions))) (LinesOfFunctions told_size (program_tree p) (map (function_definition p) p.functions))) old new
 
 pub functions_begin : (p : ProgramTable) (a : Automaton) (ds : List Document) (ls : List FoundLine) → FunctionsLoop p a a ds ds ls ls 0
-functions_begin p a ds ls = record { grows = grows_none a; keeps = keeps_same ds; lines = goes_begin ds (LinesOfFunctions told_size (program_tree p) (map (function_definition p) p.functions)) ls ls refl }
+functions_begin p a ds ls = record { grows = grows_none a; keeps = Keeps-same ds; lines = goes_begin ds (LinesOfFunctions told_size (program_tree p) (map (function_definition p) p.functions)) ls ls refl }
 
 pub functions_more : (p : ProgramTable) (a b c : Automaton) (ds es fs : List Document) (old mid new : List FoundLine) (n : ℕ) (f : FunctionRow) → FunctionsLoop p a b ds es old mid n → n < length p.functions → f ≡ get_or p.functions n f →
     AddsLinesOfFunction p n fs mid new → Grows b c → Keeps es fs → FunctionsLoop p a c ds fs old new (n + 1)
@@ -37,7 +38,7 @@ functions_more p a b c ds es fs old mid new n f h l e x g k =
     = subst (λ (rs : List FunctionRow). AddsLines es (Goes (LinesOfFunctions told_size (program_tree p) (map (function_definition p) rs)) whole) old mid) d h.lines in
     record {
       grows = grows_then a b c h.grows g;
-      keeps = keeps_then ds es fs h.keeps k;
+      keeps = Keeps-trans ds es fs h.keeps k;
       lines = goes_more es fs k (LinesOfFunctions told_size (program_tree p) (map (function_definition p) (f ∷ drop (n + 1) p.functions))) (LinesOfFunction told_size (program_tree p) (function_definition p f))
           (LinesOfFunctions told_size (program_tree p) (map (function_definition p) (drop (n + 1) p.functions))) whole old mid new y (x f e) (λ ls ms u v. (ls, ms, u, v, refl));
     }
@@ -48,7 +49,7 @@ functions_end p a b ds es old new n d h =
     let whole : List Line → Type 0 = LinesOfFunctions told_size (program_tree p) (map (function_definition p) p.functions) in
     let y : AddsLines es (Goes (LinesOfFunctions told_size (program_tree p) []) whole) old new
     = subst (λ (rs : List FunctionRow). AddsLines es (Goes (LinesOfFunctions told_size (program_tree p) (map (function_definition p) rs)) whole) old new) d h.lines in
-    goes_end es es (keeps_same es) (LinesOfFunctions told_size (program_tree p) []) whole old new new y (adds_none es (λ ls. ls ≡ []) refl new)
+    goes_end es es (Keeps-same es) (LinesOfFunctions told_size (program_tree p) []) whole old new new y (adds_none es (λ ls. ls ≡ []) refl new)
 
 pub function_at : (fs : List FunctionRow) (n : ℕ) → n < length fs → FunctionRow
 function_at [] n l = absurd (omega arith)

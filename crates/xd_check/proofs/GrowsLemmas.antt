@@ -2,32 +2,19 @@
 use Rattle.std.proofs.Common.{◌≡◌, true, ◌↔◌, ℕ, List, [], ◌∷◌, Some, refl, sym, subst, ◌∙◌, cond, Bool, false}
 use Rattle.std.specs.Str.{bytes_eq}
 use Rattle.xd_doc.specs.Document.{Document}
-use Rattle.xd_doc.specs.StoreNodes.{Keeps}
-use Rattle.xd_doc.proofs.StoredLemmas.{Keeps-same, Keeps-trans}
 use Rattle.xd_auto.specs.declared.auto.State.{State}
 use Rattle.xd_auto.specs.Automaton.{Automaton, Extends, IsState, KeepsAccepting, accepts}
+use Rattle.xd_auto.proofs.ExtendsLemmas.{extends_then}
 use Rattle.xd_syntax.specs.Program.{ProgramTree}
 use Rattle.xd_syntax.specs.May.{Scope}
 use Rattle.xd_check.specs.declared.variables.Variable.{Variable}
 use Rattle.xd_check.specs.InScope.{AcceptedBy, AreStates, ScopeStands, state_of}
 use Rattle.xd_check.specs.Walked.{AcceptsJust, Grows}
 
-pub keeps_same : (ds : List Document) → Keeps ds ds
-keeps_same ds = Keeps-same ds
-
-pub keeps_then : (ds es fs : List Document) → Keeps ds es → Keeps es fs → Keeps ds fs
-keeps_then ds es fs a b = Keeps-trans ds es fs a b
-
 pub grows_none : (a : Automaton) → Grows a a
 grows_none a = record {
   extends = record { states = λ s h. h; moves = λ s h. refl };
   keeps = λ d s h. refl;
-}
-
-pub extends_then : (a b c : Automaton) → Extends a b → Extends b c → Extends a c
-extends_then a b c g h = record {
-  states = λ s i. h.states s (g.states s i);
-  moves = λ s i. h.moves s (g.states s i) ∙ g.moves s i;
 }
 
 pub grows_then : (a b c : Automaton) → Grows a b → Grows b c → Grows a c

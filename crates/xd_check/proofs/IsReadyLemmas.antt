@@ -3,15 +3,16 @@ use Rattle.std.proofs.Common.{◌≡◌, ◌↔◌, true, List, Option, Some, No
 use Rattle.std.specs.List.{AllByRecursion}
 use Rattle.std.specs.Option.{IfSome}
 use Rattle.xd_doc.specs.Document.{Document}
+use Rattle.xd_doc.proofs.Lists.{all_push, all_as}
 use Rattle.xd_auto.specs.declared.auto.State.{State}
 use Rattle.xd_auto.specs.Automaton.{Automaton, Extends, IsState, accepts}
+use Rattle.xd_auto.proofs.ExtendsLemmas.{extends_then}
 use Rattle.xd_syntax.specs.Tree.{Definitions}
 use Rattle.xd_syntax.specs.May.{FitsResult}
 use Rattle.xd_syntax.specs.CheckFaults.{parameters_of}
 use Rattle.xd_syntax.specs.Program.{FunctionDefinition}
 use Rattle.xd_check.specs.declared.signatures.Signature.{Signature}
 use Rattle.xd_check.specs.Signed.{AreParameters, IsSignature, IsSignatureOf}
-use Rattle.xd_check.proofs.Lists.{all_as, all_push}
 use Rattle.xd_syntax.specs.Kept.{program_tree}
 use Rattle.xd_check.specs.declared.checker.Checker.{Checker}
 use Rattle.xd_check.specs.declared.variables.Variable.{Variable}
@@ -19,7 +20,7 @@ use Rattle.xd_check.specs.InScope.{AreStates}
 use Rattle.xd_clauses.specs.declared.compiled.CompiledPatterns.{CompiledPatterns}
 use Rattle.xd_check.specs.Ready.{IsReady, ServesOn}
 use Rattle.xd_check.specs.Walked.{Grows, with_found}
-use Rattle.xd_check.proofs.GrowsLemmas.{extends_then, states_kept}
+use Rattle.xd_check.proofs.GrowsLemmas.{states_kept}
 use Rattle.xd_check.proofs.IsSignatureLemmas.{signatures_kept}
 
 pub serves_kept : (a b : Automaton) (m : CompiledPatterns) → Extends a b → ServesOn a m → ServesOn b m

@@ -4,6 +4,8 @@ use Rattle.std.specs.List.{AllByRecursion, slice_get}
 use Rattle.std.proofs.lemmas.List.{drop_more}
 use Rattle.xd_doc.specs.Document.{Document}
 use Rattle.xd_doc.specs.StoreNodes.{Keeps}
+use Rattle.xd_doc.proofs.StoredLemmas.{Keeps-same, Keeps-trans}
+use Rattle.xd_doc.proofs.Lists.{all_push, all_as}
 use Rattle.xd_auto.specs.declared.auto.State.{State}
 use Rattle.xd_auto.specs.Automaton.{Automaton, IsState}
 use Rattle.xd_syntax.specs.Tree.{Definitions}
@@ -23,9 +25,8 @@ use Rattle.xd_check.specs.Signed.{AreParameters, IsTypeState}
 use Rattle.xd_check.specs.Walked.{AcceptsJust, ArePartsWalked, Grows, IsMisfit, IsWalked, LinesOfArgument, LinesOfParts}
 use Rattle.xd_check.proofs.Arguments.{argument_more, argument_step, misfit_lines, no_arguments}
 use Rattle.xd_check.proofs.AddsLinesLemmas.{Goes, goes_begin, goes_end, goes_more}
-use Rattle.xd_check.proofs.GrowsLemmas.{grows_none, grows_then, keeps_same, keeps_then, scope_kept}
+use Rattle.xd_check.proofs.GrowsLemmas.{grows_none, grows_then, scope_kept}
 use Rattle.xd_check.proofs.LineLists.{adds_both, adds_none}
-use Rattle.xd_check.proofs.Lists.{all_as, all_push}
 use Rattle.xd_check.proofs.IsSignatureLemmas.{parameters_kept}
 use Rattle.xd_check.proofs.Walks.{pairs_kept, pairs_push}
 use Rattle.xd_meaning.specs.KeptFaults.{AllPaired}
@@ -63,10 +64,10 @@ pub record Stays (a b : Automaton) (vs ws : List Variable) (ds es : List Documen
   pub keeps : Keeps ds es
 
 pub stays_begin : (a : Automaton) (vs : List Variable) (ds : List Document) → Stays a a vs vs ds ds
-stays_begin a vs ds = record { variables = refl; grows = grows_none a; keeps = keeps_same ds }
+stays_begin a vs ds = record { variables = refl; grows = grows_none a; keeps = Keeps-same ds }
 
 pub stays_more : (a b c : Automaton) (vs ws us : List Variable) (ds es fs : List Document) → Stays a b vs ws ds es → us ≡ ws → Grows b c → Keeps es fs → Stays a c vs us ds fs
-stays_more a b c vs ws us ds es fs s v g k = record { variables = v ∙ s.variables; grows = grows_then a b c s.grows g; keeps = keeps_then ds es fs s.keeps k }
+stays_more a b c vs ws us ds es fs s v g k = record { variables = v ∙ s.variables; grows = grows_then a b c s.grows g; keeps = Keeps-trans ds es fs s.keeps k }
 
 -- the parts of a sequence from the n-th on are still to be walked
 pub record PartsLoop (p : ProgramTable) (a b : Automaton) (vs ws : List Variable) (ds es : List Document) (old new : List FoundLine) (parts : List ExprId) (n : ℕ) (ss : List State) : Type 0 where
@@ -86,7 +87,7 @@ parts_begin p a vs ds ls parts h = record {
   walked = λ S s. record { done = []; split = refl; may = tt; lines = goes_begin ds (LinesOfParts (program_tree p) S (map (expr_at p) (expr_numbers parts))) ls ls refl };
 }
 
-part_front : (parts : List ExprId) (n : ℕ) (id : ExprId) → n < length parts → id ≡ get_or parts n id → drop n parts ≡ id ∷ drop (n + 1) parts
+pub part_front : (parts : List ExprId) (n : ℕ) (id : ExprId) → n < length parts → id ≡ get_or parts n id → drop n parts ≡ id ∷ drop (n + 1) parts
 part_front parts n id l e = drop_more parts n id l ∙ ap (λ x. x ∷ drop (n + 1) parts) (sym e)
 
 pub part_here : (p : ProgramTable) (a b : Automaton) (vs ws : List Variable) (ds es : List Document) (old new : List FoundLine) (parts : List ExprId) (n : ℕ) (ss : List State) (id : ExprId) →
@@ -136,7 +137,7 @@ parts_end p a b vs ws ds es old new parts n ss d h S stands =
     let x : ArePartsGoing P S all [] b es old new ss = subst (λ (ys : List ExprId). ArePartsGoing P S all (map (expr_at p) (expr_numbers ys)) b es old new ss) d (h.walked S stands) in
     record {
       may = subst (λ xs. AllPaired (λ (e : Expression) (s : State). AcceptsJust b s (May P S e)) xs ss) (sym (x.split ∙ append-nil x.done)) x.may;
-      lines = goes_end es es (keeps_same es) (LinesOfParts P S []) (LinesOfParts P S all) old new new x.lines (adds_none es (λ ls. ls ≡ []) refl new);
+      lines = goes_end es es (Keeps-same es) (LinesOfParts P S []) (LinesOfParts P S all) old new new x.lines (adds_none es (λ ls. ls ≡ []) refl new);
     }
 
 -- the arguments from the n-th on are still to be walked
@@ -210,7 +211,7 @@ arguments_more p a b c vs ws xs ds es fs gs old mid mor new ts parts n id s av h
     let r : AllByRecursion (CanBeWalked p) (expr_numbers (id ∷ drop (n + 1) parts)) = subst (λ (ys : List ExprId). AllByRecursion (CanBeWalked p) (expr_numbers ys)) f h.rest in
     let q : ceiling (expr_numbers (id ∷ drop (n + 1) parts)) ≤ ceiling (expr_numbers parts) = subst (λ (ys : List ExprId). ceiling (expr_numbers ys) ≤ ceiling (expr_numbers parts)) f h.below in
     let st = h.stays in
-    let kept = keeps_then es fs gs k j in
+    let kept = Keeps-trans es fs gs k j in
     record {
       stays = stays_more a b c vs ws xs ds es gs h.stays v g kept;
       rest = r.1;
@@ -234,4 +235,4 @@ arguments_end p a b vs ws ds es old new ts parts n d h S qs stands ps =
     let whole : List Line → Type 0 = LinesOfArguments told_size P S qs (arguments_of (map (expr_at p) (expr_numbers parts))) in
     let y : AddsLines es (Goes (LinesOfArguments told_size P S (drop n qs) (arguments_of [])) whole) old new
     = subst (λ (ys : List ExprId). AddsLines es (Goes (LinesOfArguments told_size P S (drop n qs) (arguments_of (map (expr_at p) (expr_numbers ys)))) whole) old new) d (h.walked S qs stands ps) in
-    goes_end es es (keeps_same es) (LinesOfArguments told_size P S (drop n qs) (arguments_of [])) whole old new new y (adds_none es (LinesOfArguments told_size P S (drop n qs) (arguments_of [])) (no_arguments P S (drop n qs)) new)
+    goes_end es es (Keeps-same es) (LinesOfArguments told_size P S (drop n qs) (arguments_of [])) whole old new new y (adds_none es (LinesOfArguments told_size P S (drop n qs) (arguments_of [])) (no_arguments P S (drop n qs)) new)

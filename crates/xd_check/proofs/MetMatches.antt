@@ -2,7 +2,6 @@
 use Rattle.std.proofs.Common.{◌≡◌, ℕ, ◌+◌, ◌<◌, ◌≤◌, arith, Result, Ok, Err, List, [], ◌∷◌, ◌++◌, map, length, get_or, drop, refl, ap, sym, subst, ◌∙◌, append-nil, append_assoc}
 use Rattle.std.specs.List.{AllByRecursion, AllZip}
 use Rattle.std.specs.Result.{OnOk}
-use Rattle.std.proofs.lemmas.List.{drop_more}
 use Rattle.xd_base.specs.declared.Place.{Place}
 use Rattle.xd_auto.specs.Automaton.{Automaton}
 use Rattle.xd_syntax.specs.Expression.{Expression, arguments_of, joined, place_of_expression}
@@ -19,7 +18,7 @@ use Rattle.xd_check.specs.Walked.{Grows}
 use Rattle.xd_check.specs.declared.matches.MetMatch.{MetMatch}
 use Rattle.xd_check.specs.declared.variables.Variable.{Variable}
 use Rattle.xd_check.proofs.GrowsLemmas.{grows_none, grows_then, just_kept, scope_kept}
-use Rattle.xd_check.proofs.Loops.{ceiling}
+use Rattle.xd_check.proofs.Loops.{ceiling, part_front}
 
 pub met_kept : (p : ProgramTable) (a b : Automaton) → Grows a b → (ms : List SeenMatch) (xs : List MetMatch) → AllZip (IsMet p a) ms xs → AllZip (IsMet p b) ms xs
 met_kept p a b g [] [] h = h
@@ -110,9 +109,6 @@ parts_begin p a vs xs parts h = record {
   below = omega arith;
   met = λ S s. goes_begin p a (MatchesOfArguments (program_tree p) S (arguments_of (map (expr_at p) (expr_numbers parts)))) xs;
 }
-
-part_front : (parts : List ExprId) (n : ℕ) (id : ExprId) → n < length parts → id ≡ get_or parts n id → drop n parts ≡ id ∷ drop (n + 1) parts
-part_front parts n id l e = drop_more parts n id l ∙ ap (λ x. x ∷ drop (n + 1) parts) (sym e)
 
 pub part_here : (p : ProgramTable) (a b : Automaton) (vs ws : List Variable) (old new : List MetMatch) (parts : List ExprId) (n : ℕ) (id : ExprId) →
     PartsMet p a b vs ws old new parts n → n < length parts → id ≡ get_or parts n id → CanBeWalked p id.at × (id.at + 1 ≤ ceiling (expr_numbers parts))

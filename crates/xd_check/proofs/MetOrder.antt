@@ -1,5 +1,5 @@
 -- Matches that were met, in order of place, and the loop over functions.
-use Rattle.std.proofs.Common.{◌≡◌, ℕ, ◌+◌, ◌<◌, List, [], ◌∷◌, ◌++◌, map, length, get_or, drop, refl, ap, sym, subst, ◌∙◌}
+use Rattle.std.proofs.Common.{◌≡◌, ℕ, ◌+◌, ◌<◌, List, [], ◌∷◌, map, length, get_or, drop, refl, ap, sym, subst, ◌∙◌}
 use Rattle.std.specs.List.{AllByRecursion, AllZip}
 use Rattle.std.proofs.lemmas.List.{drop_more}
 use Rattle.xd_base.specs.declared.Place.{Place}
@@ -92,13 +92,6 @@ functions_end p a b old new n d h =
     let y : AddsMatches p b (Goes (MatchesOfFunctions (program_tree p) []) whole) old new
     = subst (λ (rs : List FunctionRow). AddsMatches p b (Goes (MatchesOfFunctions (program_tree p) (map (function_definition p) rs)) whole) old new) d h.met in
     goes_end p b (MatchesOfFunctions (program_tree p) []) whole refl old new y
-
--- one more of each of two lists
-pub zip_push : {A B : Type 0} (R : A → B → Type 0) (xs : List A) (ys : List B) (x : A) (y : B) → AllZip R xs ys → R x y → AllZip R (xs ++ x ∷ []) (ys ++ y ∷ [])
-zip_push R [] [] x y h k = (k, tt)
-zip_push R [] (z ∷ zs) x y h k = absurd h
-zip_push R (w ∷ ws) [] x y h k = absurd h
-zip_push R (w ∷ ws) (z ∷ zs) x y h k = (h.0, zip_push R ws zs x y h.1 k)
 
 -- what was met of a program to which types were added is what was met of the program
 module _ (p q : ProgramTable) (adds : AddsTypes p q) (same : program_tree q ≡ program_tree p) where

@@ -1,15 +1,15 @@
 -- The order of found lines is that of their places and numbers.
-use Rattle.std.proofs.Common.{◌≡◌, ℕ, Bool, cond, ◌&&◌, ◌||◌, nat_lt, nat_eq, List, [], ◌∷◌, Ordering, refl, ap, ◌∙◌, arith, true, false}
+use Rattle.std.proofs.Common.{◌≡◌, ℕ, Bool, cond, List, [], ◌∷◌, Ordering, refl, ap, ◌∙◌, true, false}
 use Rattle.std.specs.Ordering.{is_lt, nat_cmp, ordering_then}
 use Rattle.std.specs.Cmp.{IsTotalOrder, IsStrictWeakOrder, nat_cmp_total, on_total, then_total}
 use Rattle.std.specs.List.Sorted.{IsSortedBy, IsStableBy}
 use Rattle.std.proofs.lemmas.List.Sorted.{ranks_by}
-use Rattle.std.proofs.lemmas.Bool.Decides.{nat_tests}
 use Rattle.xd_base.specs.declared.Place.{Place}
 use Rattle.xd_doc.specs.Document.{Document}
 use Rattle.xd_syntax.specs.Order.{put_in, ordered_after, ordered}
 use Rattle.xd_syntax.specs.CheckFaults.{line_precedes, lines_in_order, rank}
 use Rattle.xd_syntax.proofs.OrderedLemmas.{put_all_sorted}
+use Rattle.xd_syntax.proofs.Ranks.{less_places}
 use Rattle.xd_check.specs.declared.lines.FoundLine.{FoundLine}
 use Rattle.xd_check.specs.FoundLines.{found_precedes, kind_of, line_of, lines_of}
 
@@ -32,10 +32,6 @@ ranks_total =
 
 is_less_weak : IsStrictWeakOrder is_less
 is_less_weak = ranks_by ranks_total found_rank
-
-less_places : (a b c d m n : ℕ) → is_lt (ordering_then (ordering_then (nat_cmp a b) (nat_cmp c d)) (nat_cmp m n))
-    ≡ ((nat_lt a b || (nat_eq a b && nat_lt c d)) || ((nat_eq a b && nat_eq c d) && nat_lt m n))
-less_places a b c d m n = grind (arith, nat_tests)
 
 same_put : (l : FoundLine) (ms : List FoundLine) → put_in is_less l ms ≡ put_in found_precedes l ms
 same_put l [] = refl

@@ -4,6 +4,8 @@ use Rattle.std.specs.List.{AllByRecursion}
 use Rattle.xd_base.specs.declared.Place.{Place}
 use Rattle.xd_doc.specs.Word.{is_word}
 use Rattle.xd_doc.specs.Document.{Document, empty, text, element, join, is_proper}
+use Rattle.xd_doc.proofs.Bools.{and_parts}
+use Rattle.xd_doc.proofs.Joins.{join_empty-right}
 use Rattle.xd_auto.specs.declared.auto.State.{State}
 use Rattle.xd_auto.specs.Automaton.{Automaton, IsState, IsWrapped, accepts}
 use Rattle.xd_syntax.specs.Expression.{Expression, Nothing, Quoted, Variable, Tagged, place_of_expression, joined}
@@ -12,7 +14,6 @@ use Rattle.xd_syntax.specs.May.{Scope, May, IsTagged}
 use Rattle.xd_syntax.specs.CheckFaults.{Line, LinesOf}
 use Rattle.xd_check.specs.FoundLines.{told_size}
 use Rattle.xd_meaning.specs.KeptFaults.{AllPaired}
-use Rattle.xd_laws.proofs.WordLists.{both}
 use Rattle.xd_laws.proofs.BoundVariables.{proper_joined}
 use Rattle.xd_check.specs.declared.lines.FoundLine.{FoundLine}
 use Rattle.xd_check.specs.declared.variables.Variable as V
@@ -39,16 +40,16 @@ walked_variable P S q x a b vs ds ls s stands h = record {
 tagged_from : (l : List ℕ) (A : Document → Type 0) (a : Automaton) (s : State) → AcceptsJust a s A → (d : Document) → is_proper d ≡ true → IsWrapped a l s d → IsTagged l A d
 tagged_from l A a s h d p w =
     let q : is_proper (element l w.inside empty) ≡ true = sym (ap is_proper w.is) ∙ p in
-    let i = both (is_word l) (is_proper w.inside && true) q in
-    let j = both (is_proper w.inside) true i.1 in
+    let i = and_parts (is_word l) (is_proper w.inside && true) q in
+    let j = and_parts (is_proper w.inside) true i.1 in
     subst (IsTagged l A) (sym w.is) (refl, refl, (h w.inside j.0).0 w.accepted)
 
 tagged_to : (l : List ℕ) (A : Document → Type 0) (a : Automaton) (s : State) → AcceptsJust a s A → (d : Document) → is_proper d ≡ true → IsTagged l A d → IsWrapped a l s d
 tagged_to l A a s h empty p m = absurd m
 tagged_to l A a s h (text t r) p m = absurd m
 tagged_to l A a s h (element k c r) p m =
-    let i = both (is_word k) (is_proper c && is_proper r) p in
-    let j = both (is_proper c) (is_proper r) i.1 in
+    let i = and_parts (is_word k) (is_proper c && is_proper r) p in
+    let j = and_parts (is_proper c) (is_proper r) i.1 in
     record { inside = c; is = ap (λ w. element w c r) m.0 ∙ ap (element l c) m.1; accepted = (h c j.0).1 m.2 }
 
 pub walked_tagged : (P : ProgramTree) (S : Scope) (q : Place) (l : List ℕ) (e : Expression) (a b : Automaton) (ds : List Document) (old new : List FoundLine) (s t : State) →
@@ -58,11 +59,6 @@ walked_tagged P S q l e a b ds old new s t w h = record {
   lines = w.lines;
 }
 
-join_empty : (d : Document) → join d empty ≡ d
-join_empty empty = refl
-join_empty (text s r) = ap (text s) (join_empty r)
-join_empty (element l c r) = ap (element l c) (join_empty r)
-
 abbrev PairsMay : ProgramTree → Scope → Automaton → List Expression → List State → Type 0
 PairsMay P S a es ss = AllPaired (λ (e : Expression) (s : State). AcceptsJust a s (May P S e)) es ss
 
@@ -71,7 +67,7 @@ turn_from P S q a [] [] h d p m = m
 turn_from P S q a [] (s ∷ ss) h d p m = absurd h
 turn_from P S q a (e ∷ es) [] h d p m = absurd h
 turn_from P S q a (e ∷ []) (s ∷ []) h d p m =
-    let i : m.0 ≡ d = sym (join_empty m.0) ∙ ap (join m.0) (sym m.4) ∙ m.2 in
+    let i : m.0 ≡ d = sym (join_empty-right m.0) ∙ ap (join m.0) (sym m.4) ∙ m.2 in
     let k : is_proper m.0 ≡ true = ap is_proper i ∙ p in
     subst (May P S e) i ((h.0 m.0 k).0 m.3)
 turn_from P S q a (e ∷ []) (s ∷ (t ∷ ts)) h d p m = absurd h.1
@@ -83,7 +79,7 @@ turn_to : (P : ProgramTree) (S : Scope) (q : Place) (a : Automaton) (es : List E
 turn_to P S q a [] [] h d p m = m
 turn_to P S q a [] (s ∷ ss) h d p m = absurd h
 turn_to P S q a (e ∷ es) [] h d p m = absurd h
-turn_to P S q a (e ∷ []) (s ∷ []) h d p m = (d, empty, join_empty d, (h.0 d p).1 m, refl)
+turn_to P S q a (e ∷ []) (s ∷ []) h d p m = (d, empty, join_empty-right d, (h.0 d p).1 m, refl)
 turn_to P S q a (e ∷ []) (s ∷ (t ∷ ts)) h d p m = absurd h.1
 turn_to P S q a (e ∷ (f ∷ fs)) (s ∷ ss) h d p m =
     let k = proper_joined m.0 m.1 (ap is_proper m.2 ∙ p) in

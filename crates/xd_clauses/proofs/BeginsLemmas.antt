@@ -1,19 +1,21 @@
 -- With what documents begin that states accept.
-use Rattle.std.proofs.Common.{◌≡◌, ℕ, ◌+◌, ◌<◌, Bool, true, false, ◌||◌, ◌&&◌, List, [], ◌∷◌, ◌++◌, length, take, get_or, get_or-set_same, refl, sym, ap, ◌∙◌, subst, arith}
+use Rattle.std.proofs.Common.{◌≡◌, ℕ, ◌+◌, ◌<◌, Bool, true, false, ◌||◌, ◌&&◌, List, [], ◌∷◌, ◌++◌, length, take, get_or, refl, sym, ap, ◌∙◌, subst, arith}
 use Rattle.std.specs.List.{list_any}
 use Rattle.std.proofs.lemmas.List.Folds.{Any-from_list_any, list_any-append, list_any_more}
 use Rattle.xd_doc.specs.Document.{Document, empty, text, element}
 use Rattle.xd_doc.specs.Classes.{class_has}
+use Rattle.xd_doc.proofs.SortedNames.{or_false}
+use Rattle.xd_doc.proofs.Bools.{and_left, or_join}
 use Rattle.xd_auto.specs.declared.auto.State.{State}
 use Rattle.xd_auto.specs.declared.auto.LabelMove.{LabelMove}
 use Rattle.xd_auto.specs.declared.auto.TextMove.{TextMove}
-use Rattle.xd_auto.specs.Automaton.{Automaton, ChangesOnly, IsState, StateMoves, accepts, has_label, has_text, moves_at, no_moves, takes_element, takes_word, with_moves}
+use Rattle.xd_auto.specs.Automaton.{Automaton, StateMoves, accepts, has_label, has_text, moves_at, takes_element, takes_word}
 use Rattle.xd_auto.specs.Matching.{AreMatching}
 use Rattle.xd_clauses.specs.Begins.{AddsNames, ShareNoName, may_begin}
 
 -- ---- tests of lists
 
-or_weaker : (a b c d : Bool) → (a ≡ true → c ≡ true) → (b ≡ true → d ≡ true) → (a || b) ≡ true → (c || d) ≡ true
+pub or_weaker : (a b c d : Bool) → (a ≡ true → c ≡ true) → (b ≡ true → d ≡ true) → (a || b) ≡ true → (c || d) ≡ true
 or_weaker true b c d f g h = ap (λ w. w || d) (f refl)
 or_weaker false b true d f g h = refl
 or_weaker false b false d f g h = g h
@@ -22,18 +24,14 @@ any_weaker : {X : Type 0} (p q : X → Bool) (xs : List X) → ((x : X) → p x 
 any_weaker p q [] f h = absurd (cc)
 any_weaker p q (x ∷ xs) f h = or_weaker (p x) (list_any p xs) (q x) (list_any q xs) (f x) (any_weaker p q xs f) h
 
-and_first : (b c : Bool) → (b && c) ≡ true → b ≡ true
-and_first true c h = refl
-and_first false c h = absurd (cc)
-
 -- ---- a state
 
 -- a document that a state accepts begins with an item of a move
 pub accepts_begins : (a : Automaton) (d : Document) (s : State) → accepts a d s ≡ true → may_begin (moves_at a s) d ≡ true
 accepts_begins a empty s h = h
-accepts_begins a (text t rest) s h = any_weaker (λ w. takes_word a t rest w) (λ w. has_text w t) (moves_at a s).texts (λ w k. and_first (class_has w.words t) (accepts a rest w.rest) k) h
+accepts_begins a (text t rest) s h = any_weaker (λ w. takes_word a t rest w) (λ w. has_text w t) (moves_at a s).texts (λ w k. and_left (class_has w.words t) (accepts a rest w.rest) k) h
 accepts_begins a (element l content rest) s h =
-    any_weaker (λ w. takes_element a l content rest w) (λ w. has_label w l) (moves_at a s).labels (λ w k. and_first (class_has w.class l) (accepts a content w.content && accepts a rest w.rest) k) h
+    any_weaker (λ w. takes_element a l content rest w) (λ w. has_label w l) (moves_at a s).labels (λ w k. and_left (class_has w.class l) (accepts a content w.content && accepts a rest w.rest) k) h
 
 -- no document of both begins alike
 pub begin_apart : (m w : StateMoves) → (m.last ≡ true → w.last ≡ false) → ShareNoName has_label m.labels w.labels → ShareNoName has_text m.texts w.texts → (d : Document) → may_begin m d ≡ true → may_begin w d ≡ false
@@ -68,26 +66,18 @@ share_more has ones twos ns i m lt at bare match h n is = go (list_any (λ w. ha
 
 -- ---- more moves
 
-or_nothing : (b : Bool) → (b || false) ≡ b
-or_nothing true = refl
-or_nothing false = refl
-
-or_join : (a b c : Bool) → ((a || b) || c) ≡ (a || (b || c))
-or_join true b c = refl
-or_join false b c = refl
-
 pub adds_none : (m : StateMoves) → AddsNames false [] [] m m
 adds_none m = record {
-  last_of = sym (or_nothing m.last);
-  labels_of = λ l. sym (or_nothing (list_any (λ w. has_label w l) m.labels));
-  texts_of = λ t. sym (or_nothing (list_any (λ w. has_text w t) m.texts));
+  last_of = sym (or_false m.last);
+  labels_of = λ l. sym (or_false (list_any (λ w. has_label w l) m.labels));
+  texts_of = λ t. sym (or_false (list_any (λ w. has_text w t) m.texts));
 }
 
 -- the names of one more move
 name_more : {M N : Type 0} (has : M → N → Bool) (old mid new steps : List M) (i : ℕ) (m w : M) (n : N) → i < length steps → m ≡ get_or steps i m → has w n ≡ has m n → new ≡ mid ++ w ∷ []
     → list_any (λ k. has k n) mid ≡ (list_any (λ k. has k n) old || list_any (λ k. has k n) (take i steps)) → list_any (λ k. has k n) new ≡ (list_any (λ k. has k n) old || list_any (λ k. has k n) (take (i + 1) steps))
 name_more has old mid new steps i m w n lt at same is before =
-    ap (λ ks. list_any (λ k. has k n) ks) is ∙ list_any-append (λ k. has k n) mid (w ∷ []) ∙ ap (λ b. list_any (λ k. has k n) mid || b) (or_nothing (has w n) ∙ same ∙ ap (λ k. has k n) at)
+    ap (λ ks. list_any (λ k. has k n) ks) is ∙ list_any-append (λ k. has k n) mid (w ∷ []) ∙ ap (λ b. list_any (λ k. has k n) mid || b) (or_false (has w n) ∙ same ∙ ap (λ k. has k n) at)
     ∙ ap (λ b. b || has (get_or steps i m) n) before ∙ or_join (list_any (λ k. has k n) old) (list_any (λ k. has k n) (take i steps)) (has (get_or steps i m) n)
     ∙ ap (λ b. list_any (λ k. has k n) old || b) (sym (list_any_more (λ k. has k n) steps i m lt))
 
@@ -107,18 +97,11 @@ texts_more old mid new steps i m w lt at same is before = record {
   texts_of = λ t. name_more has_text old.texts mid.texts new.texts steps i m w t lt at (ap (λ c. class_has c t) same) (ap (λ (k : StateMoves). k.texts) is) (before.texts_of t);
 }
 
--- what a state has whose moves were changed
-pub moves_made : (old new : Automaton) (s : State) (m : StateMoves) → IsState old s → new ≡ with_moves old s m → moves_at new s ≡ m
-moves_made old new s m there is = ap (λ (a : Automaton). moves_at a s) is ∙ get_or-set_same old s.number m (no_moves false) there
-
-pub changes_then : (s : State) (a b c : Automaton) → ChangesOnly s a b → ChangesOnly s b c → ChangesOnly s a c
-changes_then s a b c f g = record { states = g.states ∙ f.states; others = λ t ne. g.others t ne ∙ f.others t ne }
-
 -- the flag, the labels and the texts of a state were added
 pub adds_all : (m old one two new : StateMoves) → one ≡ record old { last = old.last || m.last } → AddsNames false m.labels [] one two → AddsNames false [] m.texts two new → (d : Document) → may_begin new d ≡ (may_begin old d || may_begin m d)
 adds_all m old one two new is labels texts empty =
-    texts.last_of ∙ or_nothing two.last ∙ labels.last_of ∙ or_nothing one.last ∙ ap (λ (k : StateMoves). k.last) is
+    texts.last_of ∙ or_false two.last ∙ labels.last_of ∙ or_false one.last ∙ ap (λ (k : StateMoves). k.last) is
 adds_all m old one two new is labels texts (text t rest) =
-    texts.texts_of t ∙ ap (λ b. b || list_any (λ w. has_text w t) m.texts) (labels.texts_of t ∙ or_nothing (list_any (λ w. has_text w t) one.texts) ∙ ap (λ (k : StateMoves). list_any (λ w. has_text w t) k.texts) is)
+    texts.texts_of t ∙ ap (λ b. b || list_any (λ w. has_text w t) m.texts) (labels.texts_of t ∙ or_false (list_any (λ w. has_text w t) one.texts) ∙ ap (λ (k : StateMoves). list_any (λ w. has_text w t) k.texts) is)
 adds_all m old one two new is labels texts (element l content rest) =
-    texts.labels_of l ∙ or_nothing (list_any (λ w. has_label w l) two.labels) ∙ labels.labels_of l ∙ ap (λ (k : StateMoves). list_any (λ w. has_label w l) k.labels || list_any (λ w. has_label w l) m.labels) is
+    texts.labels_of l ∙ or_false (list_any (λ w. has_label w l) two.labels) ∙ labels.labels_of l ∙ ap (λ (k : StateMoves). list_any (λ w. has_label w l) k.labels || list_any (λ w. has_label w l) m.labels) is

@@ -8,6 +8,7 @@ use Rattle.xd_auto.specs.declared.auto.TextMove.{TextMove}
 use Rattle.xd_auto.specs.Automaton.{Automaton, moves_at}
 use Rattle.xd_auto.specs.Runs as Numbered
 use Rattle.xd_auto.specs.Runs.{ends, takes_text, takes_element}
+use Rattle.xd_given.proofs.TraceLemmas.{block_free}
 use Rattle.xd_syntax.specs.Words.{has_word}
 use Rattle.xd_pattern_runs.specs.Runs.{Run, ended, over_text, over_element, if_marked}
 use Rattle.xd_pattern_runs.specs.Runs as runs
@@ -58,11 +59,6 @@ free_on : (x : List ℕ) (r : Run) → IsFree x r → traces.IsFree (trace x r)
 free_on x ended free_end = tt
 free_on x (over_text xs r) (free_text e f) = (e, free_on x r f)
 free_on x (over_element xs k r) (free_element e f g) = (e, free_on x k f, free_on x r g)
-
-block_free : (t : Trace) → traces.IsFree t → traces.IsBlock t
-block_free at_end h = tt
-block_free (at_text own r) h = inr h
-block_free (at_element own k r) h = inr h
 
 block_on : (x : List ℕ) (r : Run) → IsBlock x r → traces.IsBlock (trace x r)
 block_on x r (block_end f) = block_free (trace x r) (free_on x r f)

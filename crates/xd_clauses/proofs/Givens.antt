@@ -1,18 +1,15 @@
 -- What variables are given, and states in automata of their own.
-use Rattle.std.proofs.Common.{◌≡◌, ◌↔◌, inl, inr, ℕ, zero, suc, ◌<◌, ◌+◌, Bool, true, false, ◌&&◌, List, [], ◌∷◌, ◌++◌, map, length, take, get_or, Option, Some, None, refl, sym, ap, ◌∙◌, subst, arith}
+use Rattle.std.proofs.Common.{◌≡◌, ◌↔◌, ℕ, zero, suc, ◌<◌, ◌+◌, Bool, true, false, List, [], ◌∷◌, ◌++◌, map, length, take, get_or, Option, Some, None, refl, sym, ap, ◌∙◌, subst, arith}
 use Rattle.std.specs.List.{All, AllByRecursion, list_any, slice_get}
 use Rattle.std.specs.Option.{IfSome, is_some}
 use Rattle.std.proofs.lemmas.List.{take_more}
-use Rattle.xd_doc.specs.Document.{Document, empty, text, element, is_proper}
-use Rattle.xd_doc.specs.Classes.{class_has}
+use Rattle.xd_doc.specs.Document.{Document, is_proper}
 use Rattle.xd_auto.specs.declared.auto.State.{State}
-use Rattle.xd_auto.specs.declared.auto.LabelMove.{LabelMove}
-use Rattle.xd_auto.specs.declared.auto.TextMove.{TextMove}
-use Rattle.xd_auto.specs.Automaton.{Automaton, IsState, StateMoves, accepts, moves_at, no_moves}
+use Rattle.xd_auto.specs.Automaton.{Automaton, IsState, accepts, moves_at, no_moves}
+use Rattle.xd_points.proofs.OperationLemmas.{accepts_nothing, newest}
 use Rattle.xd_meaning.specs.Bindings.{variables_of}
 use Rattle.xd_syntax.specs.Placed.{PlacedTree, unplaced}
 use Rattle.xd_syntax.specs.May.{Allowance}
-use Rattle.xd_syntax.specs.Ways.{Among}
 use Rattle.xd_meaning.specs.KeptFaults.{AllPaired}
 use Rattle.xd_bind.specs.declared.tracks.Binding.{Binding}
 use Rattle.xd_bind.specs.declared.tracks.Given.{Given}
@@ -24,21 +21,6 @@ use Rattle.xd_patterns.proofs.Pairing.{paired_end}
 
 any_none : {X : Type 0} (p : X → Bool) (xs : List X) → xs ≡ [] → list_any p xs ≡ false
 any_none p xs h = ap (list_any p) h
-
-accepts_nothing : (a : Automaton) (s : State) → moves_at a s ≡ no_moves false → (d : Document) → accepts a d s ≡ false
-accepts_nothing a s e empty = ap (λ (m : StateMoves). m.last) e
-accepts_nothing a s e (text t r) =
-    any_none (λ (m : TextMove). class_has m.words t && accepts a r m.rest) (moves_at a s).texts (ap (λ (m : StateMoves). m.texts) e)
-accepts_nothing a s e (element l c r) =
-    any_none (λ (m : LabelMove). class_has m.class l && (accepts a c m.content && accepts a r m.rest)) (moves_at a s).labels (ap (λ (m : StateMoves). m.labels) e)
-
-newest : (a : Automaton) (m : StateMoves) → get_or (a ++ m ∷ []) (length a) (no_moves false) ≡ m
-newest [] m = refl
-newest (x ∷ a) m = newest a m
-
-pub new_accepts_nothing : (a b : Automaton) (s : State) → s.number ≡ length a → b ≡ a ++ no_moves false ∷ [] → (d : Document) → accepts b d s ≡ false
-new_accepts_nothing a b s at is d =
-    accepts_nothing b s (ap (λ (w : Automaton). moves_at w s) is ∙ ap (λ n. get_or (a ++ no_moves false ∷ []) n (no_moves false)) at ∙ newest a (no_moves false)) d
 
 pub nothing_more : (vs : List (List ℕ)) (gs : List Given) (i : ℕ) (v : List ℕ) (a b : Automaton) (s : State) → i < length vs → v ≡ get_or vs i v → s.number ≡ length a → b ≡ a ++ no_moves false ∷ [] →
     IsState b s → AllPaired (IsGivenNothing b) (take i vs) gs → AllPaired (IsGivenNothing b) (take (i + 1) vs) (gs ++ record { variable = v; state = s } ∷ [])
@@ -126,11 +108,6 @@ module _ (V : Allowance) (a : Automaton) where
 
 -- ---- the variables, one for one
 
-pub got_among : (vs : List (List ℕ)) (x : ℕ) (w : List ℕ) → slice_get vs x ≡ Some w → Among w vs
-got_among [] x w e = cc
-got_among (v ∷ vs) zero w e = inl (let q : v ≡ w = cc in q)
-got_among (v ∷ vs) (suc x) w e = inr (got_among vs x w e)
-
 pub got_word : (vs : List (List ℕ)) (x : ℕ) (w : List ℕ) → slice_get vs x ≡ Some w → get_or vs x [] ≡ w
 got_word [] x w e = cc
 got_word (v ∷ vs) zero w e = cc
@@ -153,7 +130,3 @@ if_some_map P Q (Some x) f h = f x h
 pub some_holds : {X : Type 0} (P : Type 0) (o : Option X) → IfSome o (λ x. P) → is_some o ≡ true → P
 some_holds P None h e = cc
 some_holds P (Some x) h e = h
-
-pub none_is : {X : Type 0} (o : Option X) → is_some o ≡ false → o ≡ None
-none_is None e = refl
-none_is (Some x) e = cc

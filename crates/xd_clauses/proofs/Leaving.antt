@@ -1,41 +1,22 @@
 -- What patterns leave that wait to be taken away.
-use Rattle.std.proofs.Common.{◌≡◌, ◌↔◌, ◌⊎◌, inl, inr, Bool, true, false, not, ◌&&◌, ◌||◌, List, [], ◌∷◌, ◌++◌, refl, ap, sym, ◌∙◌, subst}
+use Rattle.std.proofs.Common.{◌≡◌, ◌↔◌, Bool, true, false, not, ◌&&◌, ◌||◌, [], ◌∷◌, ◌++◌, refl, ap, sym, ◌∙◌, subst}
 use Rattle.std.specs.List.{AllByRecursion}
-use Rattle.std.proofs.lemmas.List.Folds.{list_any-append}
 use Rattle.xd_doc.specs.Document.{Document}
+use Rattle.xd_doc.proofs.Lists.{all_push}
 use Rattle.xd_auto.specs.declared.auto.State.{State}
-use Rattle.xd_auto.specs.Automaton.{Automaton, Extends, IsState, accepts, moves_at}
-use Rattle.xd_boole.proofs.Bools.{or_nothing}
-use Rattle.xd_boole.proofs.Lists.{all_push}
+use Rattle.xd_auto.specs.Automaton.{IsState, accepts, moves_at}
 use Rattle.xd_boole.specs.Meaning.{any_accepts}
+use Rattle.xd_boole.proofs.AnyAcceptsLemmas.{any_accepts_push}
 use Rattle.xd_clauses.specs.Begins.{begins_so, may_begin}
 use Rattle.xd_clauses.specs.Behind.{AreWaiting, any_waiting}
 use Rattle.xd_clauses.specs.declared.behind.Waiting.{Waiting}
 use Rattle.xd_clauses.specs.declared.compiled.CompiledPatterns.{CompiledPatterns}
-use Rattle.xd_clauses.proofs.BeginsLemmas.{accepts_begins}
-
-pub extends_then : (a b c : Automaton) → Extends a b → Extends b c → Extends a c
-extends_then a b c f g = record {
-  states = λ s h. g.states s (f.states s h);
-  moves = λ s h. g.moves s (f.states s h) ∙ f.moves s h;
-}
-
-pub any_push : (a : Automaton) (us : List State) (s : State) (d : Document) → any_accepts a (us ++ s ∷ []) d ≡ (any_accepts a us d || accepts a d s)
-any_push a us s d = list_any-append (λ w. accepts a d w) us (s ∷ []) ∙ ap (λ w. any_accepts a us d || w) (or_nothing (accepts a d s))
-
-or_cases : (a b : Bool) → (a || b) ≡ true → (a ≡ true) ⊎ (b ≡ true)
-or_cases true b h = inl refl
-or_cases false b h = inr h
-
-or_both : (a b c d : Bool) → (a ≡ true → c ≡ true) → (b ≡ true → d ≡ true) → (a || b) ≡ true → (c || d) ≡ true
-or_both true b c d f g h = ap (λ w. w || d) (f refl)
-or_both false b true d f g h = refl
-or_both false b false d f g h = g h
+use Rattle.xd_clauses.proofs.BeginsLemmas.{accepts_begins, or_weaker}
 
 -- one pattern more waits
 module _ (m : CompiledPatterns) (old new : Waiting) (start : State) (there : IsState m.states.auto start) (starts : new.starts.items ≡ old.starts.items ++ start ∷ []) (waiting : AreWaiting m old) where
   pub waits_more : (d : Document) → any_waiting m new d ≡ (any_waiting m old d || accepts m.states.auto d start)
-  waits_more d = ap (λ us. any_accepts m.states.auto us d) starts ∙ any_push m.states.auto old.starts.items start d
+  waits_more d = ap (λ us. any_accepts m.states.auto us d) starts ∙ any_accepts_push m.states.auto old.starts.items start d
 
   pub waiting_more : IsState new.begins.auto new.begins.state → ((d : Document) → begins_so new.begins d ≡ (begins_so old.begins d || may_begin (moves_at m.states.auto start) d)) → AreWaiting m new
   waiting_more own begins = record {
@@ -43,7 +24,7 @@ module _ (m : CompiledPatterns) (old new : Waiting) (start : State) (there : IsS
     own = own;
     begins = λ d h.
         begins d
-        ∙ or_both (any_waiting m old d) (accepts m.states.auto d start) (begins_so old.begins d) (may_begin (moves_at m.states.auto start) d) (waiting.begins d) (accepts_begins m.states.auto d start) (sym (waits_more d) ∙ h);
+        ∙ or_weaker (any_waiting m old d) (accepts m.states.auto d start) (begins_so old.begins d) (may_begin (moves_at m.states.auto start) d) (waiting.begins d) (accepts_begins m.states.auto d start) (sym (waits_more d) ∙ h);
   }
 
 -- a document that begins otherwise is taken by none

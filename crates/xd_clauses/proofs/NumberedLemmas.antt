@@ -5,7 +5,9 @@ use Rattle.std.specs.List.{AllByRecursion, slice_get}
 use Rattle.std.specs.Option.{IfSome}
 use Rattle.std.specs.Str.{bytes_eq}
 use Rattle.std.proofs.lemmas.Bool.Decides.{nat_tests}
+use Rattle.std.proofs.lemmas.Bool.{false_from_ne_true, or_parts, or_from}
 use Rattle.xd_doc.specs.Document.{Document, is_proper}
+use Rattle.xd_doc.proofs.Lists.{last_at, all_get, all_take}
 use Rattle.xd_auto.specs.declared.auto.State.{State}
 use Rattle.xd_auto.specs.Automaton.{Automaton, Extends, IsClosed, IsState, KeepsAccepting, accepts}
 use Rattle.xd_auto.proofs.RunLaw.{runs_law}
@@ -20,6 +22,7 @@ use Rattle.xd_syntax.specs.May.{Allowance, IsLive, MayBind, NoneTakes}
 use Rattle.xd_syntax.specs.Ways.{Among, Takes}
 use Rattle.xd_syntax.proofs.PlacedTrees.{unplaced_at}
 use Rattle.xd_boole.specs.Meaning.{any_accepts}
+use Rattle.xd_syntax.proofs.Words.{got_among}
 use Rattle.xd_meaning.specs.Bindings.{variables_of}
 use Rattle.xd_meaning.specs.KeptFaults.{AllPaired}
 use Rattle.xd_laws.proofs.Unfoldings.{same_word_eq}
@@ -30,19 +33,19 @@ use Rattle.xd_bind.proofs.SameOwned.{SameOwned, same_back, together_same, trace_
 use Rattle.xd_given.specs.Given.{AreGivensFor, IsGivenFor, IsSharedAlone}
 use Rattle.xd_given.specs.Owning.{GivesAlike, IsWhole, LeavesOutAlike, owns_first}
 use Rattle.xd_points.specs.Tables.{takes_alone}
+use Rattle.xd_continuations.proofs.LeadsToLemmas.{among_has}
 use Rattle.xd_patterns.specs.CompiledProgram.{AcceptsType, AreWithin, IsPatternState, marking_of_program, pattern_states, pattern_variables, words_of_program}
 use Rattle.xd_patterns.specs.CompiledState.{CompiledStatesStay, IsCompiledState}
 use Rattle.xd_patterns.specs.Held.{marks_at}
 use Rattle.xd_patterns.specs.Marked.{Marking}
 use Rattle.xd_patterns.specs.declared.compiled.CompiledProgram.{CompiledProgram}
-use Rattle.xd_patterns.proofs.Pairing.{each_at}
-use Rattle.xd_patterns.proofs.VariableLemmas.{among_word, variables_have}
+use Rattle.xd_patterns.proofs.VariableLemmas.{variables_have}
 use Rattle.xd_clauses.specs.Clauses.{Accepted, AreGivensOf, AreMayGivens, IsGivenOf}
 use Rattle.xd_clauses.specs.Cases.{placed_pattern, placed_patterns}
 use Rattle.xd_clauses.specs.Compiled.{ArePatterns, AreRunsGivens, IsNumbered, LeavesOut, RunsGive, state_of, variables_at, word_moves}
 use Rattle.xd_clauses.specs.Owning.{moves_of}
 use Rattle.xd_clauses.specs.declared.compiled.CompiledPatterns.{CompiledPatterns}
-use Rattle.xd_clauses.proofs.Givens.{got_among, got_word, same_words}
+use Rattle.xd_clauses.proofs.Givens.{got_word, same_words}
 use Rattle.xd_clauses.proofs.CompiledTellLaw.{keeps_together, tells}
 use Rattle.xd_clauses.proofs.Leaving.{and_tells}
 
@@ -113,7 +116,7 @@ leaves_out m vs within out x h = λ s e.
     let ws = words_of_program m.compiled in
     let k = marking_of_program m.compiled in
     let w = get_or vs x [] in
-    let at = stands_among ws w (within w (among_word vs w (among_got vs x h))) in
+    let at = stands_among ws w (within w (among_has vs w (among_got vs x h))) in
     alike_same a (moves_of k w) (word_moves m.compiled vs x) (same_back (word_moves m.compiled vs x) (moves_of k w) (word_same m.compiled vs x h)) s
     (subst (λ v. GivesAlike a (moves_of k v) s) at.is
     (alike_same a (word_moves m.compiled ws at.place) (moves_of k (get_or ws at.place [])) (word_same m.compiled ws at.place at.below) s (out at.place at.below s e)))
@@ -128,9 +131,6 @@ type_stays E rows a b grows keeps id s h = record {
   belongs = grows.states s h.belongs;
   accepts = λ d. (λ e. (h.accepts d).0 (sym (keeps d s h.belongs) ∙ e), λ f. keeps d s h.belongs ∙ (h.accepts d).1 f);
 }
-
-pub extends_itself : (a : Automaton) → Extends a a
-extends_itself a = record { states = λ s h. h; moves = λ s h. refl }
 
 -- ---- the pattern of a number
 
@@ -155,7 +155,7 @@ module _ (E : Definitions) (P : Tree) (m : CompiledPatterns) (n : ℕ) (i : IsNu
   pub numbered_alike : (vs : List (List ℕ)) → vs ≡ variables_at m n → (x : ℕ) → x < length vs → LeavesOutAlike m.states (word_moves m.compiled vs x)
   numbered_alike vs e =
       subst (λ (ws : List (List ℕ)). (x : ℕ) → x < length ws → LeavesOutAlike m.states (word_moves m.compiled ws x)) (sym e)
-      (leaves_out m (variables_at m n) (each_at (AreWithin (words_of_program m.compiled)) (pattern_variables m.compiled) n [] i.patterns.words numbered_counted) i.patterns.alike)
+      (leaves_out m (variables_at m n) (all_get (AreWithin (words_of_program m.compiled)) (pattern_variables m.compiled) n [] i.patterns.words numbered_counted) i.patterns.alike)
 
   pub numbered_together : (vs : List (List ℕ)) (s : State) → s ≡ state_of m n → (x : ℕ) → x < length vs → KeepsTogether m.states.auto (word_moves m.compiled vs x) s
   numbered_together vs s is x h =
@@ -176,18 +176,6 @@ states_there E rows m are = go m.ids.items (pattern_states m.compiled) are.patte
     go (i ∷ ids) [] h = absurd h
     go (i ∷ ids) (s ∷ ss) h = (h.0.belongs, go ids ss h.1)
 
-neither_takes : (b c : Bool) → (b || c) ≡ false → (b ≡ false) × (c ≡ false)
-neither_takes true c e = cc
-neither_takes false c e = (refl, e)
-
-either_not : (b c : Bool) → b ≡ false → c ≡ false → (b || c) ≡ false
-either_not true c e f = cc
-either_not false c e f = f
-
-not_true : (b : Bool) → (b ≡ true → ⊥) → b ≡ false
-not_true true h = absurd (h refl)
-not_true false h = refl
-
 -- none of the states accepts a document just where none of the patterns takes it
 none_of : (E : Definitions) (rows : List Row) (a : Automaton) (k : Marking) (d : Document) (ids : List PatternId) (ss : List State) → AllPaired (IsPatternState E rows a k) ids ss →
     (any_accepts a ss d ≡ false) ↔ NoneTakes E (placed_patterns rows ids) d
@@ -197,8 +185,8 @@ none_of E rows a k d (i ∷ ids) [] h = absurd h
 none_of E rows a k d (i ∷ ids) (s ∷ ss) h =
     let takes : (accepts a d s ≡ true) ↔ Takes E (unplaced (placed_pattern rows i)) d = subst (λ (T : Tree). (accepts a d s ≡ true) ↔ Takes E T d) (sym (unplaced_at rows i.at)) (h.0.compiled.accepts d) in
     let others = none_of E rows a k d ids ss h.1 in (
-      λ e. let b = neither_takes (accepts a d s) (any_accepts a ss d) e in (λ t. let y : true ≡ false = sym (takes.1 t) ∙ b.0 in cc, others.0 b.1),
-      λ n. either_not (accepts a d s) (any_accepts a ss d) (not_true (accepts a d s) (λ y. n.0 (takes.0 y))) (others.1 n.1),
+      λ e. let b = or_parts (accepts a d s) (any_accepts a ss d) e in (λ t. let y : true ≡ false = sym (takes.1 t) ∙ b.0 in cc, others.0 b.1),
+      λ n. or_from (accepts a d s) (any_accepts a ss d) (false_from_ne_true (accepts a d s) (λ y. n.0 (takes.0 y))) (others.1 n.1),
     )
 
 -- the first of two lists that go together, so many of them, go together
@@ -209,20 +197,15 @@ paired_take R (suc n) [] (y ∷ ys) h = absurd h
 paired_take R (suc n) (x ∷ xs) [] h = absurd h
 paired_take R (suc n) (x ∷ xs) (y ∷ ys) h = (h.0, paired_take R n xs ys h.1)
 
-paired_length : {A B : Type 0} (R : A → B → Type 0) (xs : List A) (ys : List B) → AllPaired R xs ys → length xs ≡ length ys
+pub paired_length : {A B : Type 0} (R : A → B → Type 0) (xs : List A) (ys : List B) → AllPaired R xs ys → length xs ≡ length ys
 paired_length R [] [] h = refl
 paired_length R [] (y ∷ ys) h = absurd h
 paired_length R (x ∷ xs) [] h = absurd h
 paired_length R (x ∷ xs) (y ∷ ys) h = ap suc (paired_length R xs ys h.1)
 
-first_there : {A : Type 0} (P : A → Type 0) (n : ℕ) (xs : List A) → AllByRecursion P xs → AllByRecursion P (take n xs)
-first_there P zero xs h = tt
-first_there P (suc n) [] h = tt
-first_there P (suc n) (x ∷ xs) h = (h.0, first_there P n xs h.1)
-
 module _ (E : Definitions) (rows : List Row) (m : CompiledPatterns) (are : ArePatterns E rows m) (n : ℕ) (ss : List State) (is : ss ≡ take n (pattern_states m.compiled)) where
   pub firsts_there : AllByRecursion (IsState m.states.auto) ss
-  firsts_there = subst (λ (us : List State). AllByRecursion (IsState m.states.auto) us) (sym is) (first_there (IsState m.states.auto) n (pattern_states m.compiled) (states_there E rows m are))
+  firsts_there = subst (λ (us : List State). AllByRecursion (IsState m.states.auto) us) (sym is) (all_take (IsState m.states.auto) n (pattern_states m.compiled) (states_there E rows m are))
 
   pub left_by_firsts : (b x : Bool) (d : Document) → b ≡ (x && not (any_accepts m.states.auto ss d)) → (b ≡ true) ↔ ((x ≡ true) × NoneTakes E (placed_patterns rows (take n m.ids.items)) d)
   left_by_firsts b x d e =
@@ -237,16 +220,12 @@ as_many_states E rows m are = paired_length (IsPatternState E rows m.states.auto
 
 -- ---- the last of some patterns
 
-last_of : {A : Type 0} (xs : List A) (x : A) → slice_get (xs ++ x ∷ []) (length xs) ≡ Some x
-last_of [] x = refl
-last_of (y ∷ xs) x = last_of xs x
-
 pub last_numbered : (E : Definitions) (rows : List Row) (m : CompiledPatterns) → ArePatterns E rows m → (earlier : List PatternId) (id : PatternId) → m.ids.items ≡ earlier ++ id ∷ [] → IsNumbered E (unplaced (placed_pattern rows id)) m (length earlier)
 last_numbered E rows m are earlier id is = record {
   rows = rows;
   id = id;
   patterns = are;
-  number = ap (λ (ids : List PatternId). slice_get ids (length earlier)) is ∙ last_of earlier id;
+  number = ap (λ (ids : List PatternId). slice_get ids (length earlier)) is ∙ last_at earlier id;
   is = sym (unplaced_at rows id.at);
 }
 
@@ -289,7 +268,7 @@ module _ (E : Definitions) (P : PlacedTree) (m : CompiledPatterns) (n : ℕ) (i 
         let w = get_or vs x [] in
         let e : w ≡ b.variable = got_word vs x b.variable c.variable in
         let there : has_word (variables_of (unplaced P)) b.variable ≡ true =
-        sym (ap (λ ws. has_word ws b.variable) (numbered_variables E (unplaced P) m n i)) ∙ among_word vs b.variable (got_among vs x b.variable c.variable) in
+        sym (ap (λ ws. has_word ws b.variable) (numbered_variables E (unplaced P) m n i)) ∙ among_has vs b.variable (got_among vs x b.variable c.variable) in
         let own = word_same m.compiled vs x h in
         let back = same_back (word_moves m.compiled vs x) (moves_of k w) own in
         record {

@@ -2,16 +2,13 @@
 use Rattle.std.proofs.Common.{◌≡◌, ℕ, ◌+◌, ◌<◌, ◌≤◌, true, false, nat_lt, List, Some, None, refl, ap, sym, ◌∙◌, arith}
 use Rattle.std.specs.Fmt.{decimal}
 use Rattle.std.specs.Str.{bytes_eq}
-use Rattle.std.specs.Str.Parse.{AllDigits, digits_value}
+use Rattle.std.specs.Str.Parse.{digits_value}
 use Rattle.std.proofs.lemmas.Bool.Decides.{nat_tests}
-use Rattle.std.proofs.lemmas.Str.Parse.{IsNumeralModel, numerals_by_value, tells_digits}
 use Rattle.std.proofs.lemmas.Fmt.{digits_value-decimal}
 use Rattle.std.proofs.lemmas.Slice.Eq.{bytes_eq-Decides}
 use Rattle.xd_proof.specs.Lines.{SpellsNumber}
+use Rattle.xd_proof.proofs.NumberLemmas.{own}
 use Rattle.xd_command.specs.Command.{number_within}
-
-own : IsNumeralModel (AllDigits 10) (digits_value 10)
-own = numerals_by_value _ tells_digits
 
 value_is : (w : List ℕ) (n : ℕ) → SpellsNumber w n → digits_value 10 w ≡ n
 value_is w n s = ap (digits_value 10) s.digits ∙ digits_value-decimal own n (let m = (s.number).most in omega (arith, m))

@@ -1,6 +1,7 @@
 -- Least documents of types, by states that accept what fits them.
 use Rattle.std.proofs.Common.{◌≡◌, ◌<◌, ◌≤◌, inl, inr, length, length-append, sym, subst, ◌∙◌, arith}
 use Rattle.std.specs.Prelude.{codes}
+use Rattle.xd_doc.proofs.Bools.{not_true_and_false}
 use Rattle.xd_auto.specs.Automaton.{Automaton}
 use Rattle.xd_auto.specs.declared.auto.State.{State}
 use Rattle.xd_doc.specs.Document.{Document, canonical_text}
@@ -13,7 +14,6 @@ use Rattle.xd_command_steps.specs.Output.{Output, canonical}
 use Rattle.xd_command_documents.specs.FitsByState.{IsAcceptor}
 use Rattle.xd_command_documents.specs.Least.{AnswersLeastOf}
 use Rattle.xd_command_documents.specs.LeastByState.{TellsLeast}
-use Rattle.xd_command_documents.proofs.Steps.{not_both}
 
 -- what is written after a document's text is no shorter
 pub least_canonical : (In : Document → Type 0) (d : Document) (o : Output) → IsLeastUpTo size_limit In d → o ≡ canonical d → length o.text < size_limit → IsLeast In d
@@ -29,4 +29,4 @@ least_by_state E T a s o acceptor (inl h) = inl (
   },
   h.3,
 )
-least_by_state E T a s o acceptor (inr h) = inr ((λ d f. not_both (sym (h.0 d) ∙ (acceptor.1 d).1 f.fits)), h.1)
+least_by_state E T a s o acceptor (inr h) = inr ((λ d f. not_true_and_false (sym (h.0 d) ∙ (acceptor.1 d).1 f.fits)), h.1)

@@ -4,6 +4,7 @@ use Rattle.std.proofs.lemmas.Result.{err_from_is_err_and}
 use Rattle.std.specs.Result.{IsErrAnd}
 use Rattle.xd_base.specs.Outside.{HasRisen, IsLacking}
 use Rattle.xd_doc.specs.Document.{Document}
+use Rattle.xd_doc.proofs.Bools.{not_true_and_false}
 use Rattle.xd_command_steps.specs.declared.output.Stop.{Stop}
 use Rattle.xd_command_steps.specs.declared.output.Stop.TheVariants.{Refused, NoMemory}
 use Rattle.xd_command_steps.specs.Output.{Output, yes, no}
@@ -41,10 +42,6 @@ does-map ends ends' finds finds' (Ok x) f g h = g x h
 does-map ends ends' finds finds' (Err (Refused o)) f g h = f o h
 does-map ends ends' finds finds' (Err NoMemory) f g h = tt
 
--- no test is false and true
-pub not_both : ◌≡◌ {A = Bool} false true → ⊥
-not_both e = cc
-
 -- a count that rises later has risen
 risen_later : (a b c : ℕ) → a ≤ b → HasRisen b c → HasRisen a c
 risen_later a b c le (inl lt) = inl (omega arith)
@@ -75,4 +72,4 @@ fits_by_state holds rose name document P a s o defined acceptor (inr h) = inr (d
   where
     tells : (b : Bool) → accepts a h.0 s ≡ b → o ≡ cond b yes no → AnswersMembership P name h.0 o
     tells true e t = inl ((acceptor.1 h.0).0 e, t)
-    tells false e t = inr ((λ f. not_both (sym e ∙ (acceptor.1 h.0).1 f)), t)
+    tells false e t = inr ((λ f. not_true_and_false (sym e ∙ (acceptor.1 h.0).1 f)), t)

@@ -1,6 +1,7 @@
 -- What one type alone has, by states that accept what fits the types.
 use Rattle.std.proofs.Common.{◌≡◌, Bool, true, false, refl, sym, ◌∙◌}
 use Rattle.std.specs.Prelude.{◌↔◌, ◌&&◌, not}
+use Rattle.xd_doc.proofs.Bools.{not_true_and_false}
 use Rattle.xd_auto.specs.Automaton.{Automaton, accepts}
 use Rattle.xd_auto.specs.declared.auto.State.{State}
 use Rattle.xd_doc.specs.Document.{Document, is_proper}
@@ -8,17 +9,16 @@ use Rattle.xd_syntax.specs.Tree.{Tree, Definitions}
 use Rattle.xd_command_documents.specs.FitsByState.{IsAcceptor}
 use Rattle.xd_command_inclusions.specs.MinusAlone.{IsAlone}
 use Rattle.xd_command_inclusions.specs.Subtype.{FitsAlone}
-use Rattle.xd_command_documents.proofs.Steps.{not_both}
 
 both : (a b : Bool) → (a && not b) ≡ true → (a ≡ true) × (b ≡ true → ⊥)
-both true true e = absurd (not_both e)
-both true false e = (refl, λ f. not_both f)
-both false b e = absurd (not_both e)
+both true true e = absurd (not_true_and_false e)
+both true false e = (refl, λ f. not_true_and_false f)
+both false b e = absurd (not_true_and_false e)
 
 alone : (a b : Bool) → a ≡ true → (b ≡ true → ⊥) → (a && not b) ≡ true
 alone true true e n = absurd (n refl)
 alone true false e n = refl
-alone false b e n = absurd (not_both e)
+alone false b e n = absurd (not_true_and_false e)
 
 module _ (E : Definitions) (L R : Tree) where
   pub alone_by : (one two made : Automaton) (first second start : State) → IsAcceptor E L one first → IsAcceptor E R two second →

@@ -1,10 +1,10 @@
 -- Inclusion of types, by states that accept what fits them, and its proofs.
-use Rattle.std.proofs.Common.{◌≡◌, ℕ, inl, inr, List, [], ◌∷◌, Option, Some, sym, ap, subst, ◌∙◌}
+use Rattle.std.proofs.Common.{◌≡◌, ℕ, inl, List, [], ◌∷◌, Option, Some, sym, ap, subst, ◌∙◌}
 use Rattle.std.specs.List.{AllByRecursion}
 use Rattle.xd_auto.specs.Automaton.{Automaton}
 use Rattle.xd_auto.specs.declared.auto.State.{State}
-use Rattle.xd_rules.specs.Members.{IsOneOf}
 use Rattle.xd_rules.specs.Moves.{Accepts, claim_with}
+use Rattle.xd_rules.proofs.Members.{only_one}
 use Rattle.xd_goals.specs.Rows.{TableView, claim_of, row_at}
 use Rattle.xd_goals.specs.Truth.{IsIncluded}
 use Rattle.xd_goals.specs.Verdicts.{IsProved}
@@ -23,10 +23,6 @@ use Rattle.xd_syntax.specs.Tree.{Tree}
 use Rattle.xd_command_steps.specs.Output.{Output}
 use Rattle.xd_command_inclusions.specs.Subtype.{AnswersInclusion, ProvesInclusion}
 use Rattle.xd_command_inclusions.specs.SubtypeByState.{IsStateOf}
-
-only_one : {X : Type 0} (x y : X) → IsOneOf x (y ∷ []) → x ≡ y
-only_one x y (inl e) = sym e
-only_one x y (inr e) = absurd e
 
 module _ (p : ProgramTable) (c : CellsView) (a : Automaton) (L R : Tree) (one other : State) (left : IsStateOf p c a L one) (right : IsStateOf p c a R other) where
   abbrev P : ProgramTree

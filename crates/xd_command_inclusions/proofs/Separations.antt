@@ -1,6 +1,8 @@
 -- Least documents of what one type alone has, by states that accept what fits the types.
-use Rattle.std.proofs.Common.{◌≡◌, ℕ, ◌<◌, ◌≤◌, Bool, true, false, List, ◌++◌, length, length-append, refl, sym, subst, ◌∙◌, arith}
+use Rattle.std.proofs.Common.{◌≡◌, ℕ, ◌<◌, ◌≤◌, List, ◌++◌, length, length-append, sym, subst, ◌∙◌, arith}
 use Rattle.std.specs.Prelude.{codes}
+use Rattle.std.proofs.lemmas.Bool.{false_from_ne_true}
+use Rattle.xd_doc.proofs.Bools.{not_true_and_false}
 use Rattle.xd_auto.specs.Automaton.{Automaton, accepts}
 use Rattle.xd_auto.specs.declared.auto.State.{State}
 use Rattle.xd_doc.specs.Document.{Document, canonical_text}
@@ -13,7 +15,6 @@ use Rattle.xd_command_steps.specs.Output.{Output, separated}
 use Rattle.xd_command_documents.specs.FitsByState.{IsAcceptor}
 use Rattle.xd_command_inclusions.specs.Subtype.{FitsAlone}
 use Rattle.xd_command_inclusions.specs.SubtypeByState.{TellsApart}
-use Rattle.xd_command_documents.proofs.Steps.{not_both}
 
 -- what is written around a document's text is no shorter
 pub least_separated : (In : Document → Type 0) (d : Document) (o : Output) → IsLeastUpTo size_limit In d → o ≡ separated d → length o.text < size_limit → IsLeast In d
@@ -22,17 +23,13 @@ least_separated In d o w e fits = least_written In d o.text w (subst (λ (p : Ou
     longer : (x y z : List ℕ) → length y ≤ length (x ++ y ++ z)
     longer x y z = simp length-append (omega arith)
 
-pub false_if : (b : Bool) → (b ≡ true → ⊥) → b ≡ false
-false_if true h = absurd (h refl)
-false_if false h = refl
-
 -- what a least document of two states says of what one type alone has
 pub alone_by_states : (E : Definitions) (L R : Tree) (a : Automaton) (one other : State) (o : Output) → IsAcceptor E L a one → IsAcceptor E R a other → TellsApart a one other o → (d : Document) × IsLeast (FitsAlone E L R) d × (o ≡ separated d)
 alone_by_states E L R a one other o left right t = (
   t.0,
   record {
-    within = let w = t.2.within in record { proper = t.1; left = (left.1 t.0).0 w.accepted; right = λ f. not_both (sym w.refused ∙ (right.1 t.0).1 f) };
-    least = λ e f. t.2.least e (record { accepted = (left.1 e).1 f.left; refused = false_if (accepts a e other) (λ h. f.right ((right.1 e).0 h)) });
+    within = let w = t.2.within in record { proper = t.1; left = (left.1 t.0).0 w.accepted; right = λ f. not_true_and_false (sym w.refused ∙ (right.1 t.0).1 f) };
+    least = λ e f. t.2.least e (record { accepted = (left.1 e).1 f.left; refused = false_from_ne_true (accepts a e other) (λ h. f.right ((right.1 e).0 h)) });
   },
   t.3,
 )

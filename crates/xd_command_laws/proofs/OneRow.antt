@@ -10,7 +10,7 @@ use Rattle.xd_doc.specs.Document.{Document, size}
 use Rattle.xd_syntax.specs.Tree.{Tree}
 use Rattle.xd_syntax.specs.Program.{ProgramTree, names_of}
 use Rattle.xd_syntax.specs.Sound.{is_defined, type_named}
-use Rattle.xd_syntax.specs.CheckFaults.{Line, LineKind, not_exhaustive, wrong_argument, wrong_result, dead_clause, is_warning, faults_among, IsAccepted}
+use Rattle.xd_syntax.specs.CheckFaults.{Line, dead_clause, is_warning, faults_among, IsAccepted}
 use Rattle.xd_meaning.specs.Breach.{Lined}
 use Rattle.xd_meaning.specs.KeptFaults.{AllPaired}
 use Rattle.xd_meaning.specs.Meaning.{Done, Spent}
@@ -37,6 +37,7 @@ use Rattle.xd_command_programs.specs.Run.{EndsAtLines, EndsAtValue, IsValue, Ans
 use Rattle.xd_command_programs.specs.Report.{line_text, lines_text, said}
 use Rattle.xd_command_inclusions.specs.Minus.{AnswersDifference, AnswersMinus}
 use Rattle.xd_command_programs.specs.Types.{AnswersTypes}
+use Rattle.xd_command_programs.proofs.Merged.{is_dead}
 use Rattle.xd_command_laws.specs.OneAnswer.{ProveAlike, CarryAlike, FaultsAlike, ShowTheSame, ShowAlike, IsSameBlock, BlocksAlike}
 use Rattle.xd_variables.proofs.SeenOnce.{variables_once}
 use Rattle.xd_command_programs.proofs.SameFaults.{Same, faults_same, not_accepted}
@@ -167,14 +168,6 @@ upgrade_alike texts proof P = step_alike Never (List Lined) (EndsAtProof (Some t
 
 pub upgrade_settled : (texts : Texts) (rose : Type 0) (proof : List ℕ) (P : ProgramTree) (o : Output) → IsRead rose o → AnswersUpgrade (Some texts) rose proof P o → AnswersUpgrade (Some texts) ⊥ proof P o
 upgrade_settled texts rose proof P o h a = step_settled (List Lined) (EndsAtProof (Some texts) rose proof P) (EndsAtProof (Some texts) ⊥ proof P) (IsProof (Some texts) proof P) Upgrades Upgrades o ((counts_tell_nothing rose).proofs texts proof P o h) (λ gs m. m) a
-
--- ---- lines of faults and warnings
--- no fault among the lines: the first is a warning, and so are the others
-is_dead : (k : LineKind) → is_warning k ≡ true → k ≡ dead_clause
-is_dead not_exhaustive e = cc
-is_dead wrong_argument e = cc
-is_dead wrong_result e = cc
-is_dead dead_clause e = refl
 
 first_warns : (b : Bool) (l : Line) (ls : List Line) → cond b ls (l ∷ ls) ≡ [] → (b ≡ true) × (ls ≡ [])
 first_warns true l ls e = (refl, e)

@@ -16,6 +16,7 @@ use Rattle.xd_syntax.specs.SoundTables.{main_parameter, only_parameter}
 use Rattle.xd_syntax.specs.declared.program.Param.{Param}
 use Rattle.xd_syntax.specs.declared.types.TypeId.{TypeId}
 use Rattle.xd_syntax.proofs.PlacedTrees.{unplaced_at}
+use Rattle.xd_syntax.proofs.KeptLaws.{only_belongs}
 use Rattle.xd_eval.specs.Evaluation.{IsInput, FitsParameter}
 use Rattle.xd_command_programs.specs.Run.{only_declared, declared_input, input_type}
 
@@ -41,11 +42,6 @@ functions_is p (f ∷ fs) = by (bytes_eq f.name main_word) (functions_is p fs)
 -- the input type is the tree of the parameter's type
 pub input_is : (p : ProgramTable) → input_type (program_tree p) ≡ tree_of p.types (main_parameter p.functions)
 input_is p = functions_is p p.functions
-
-only_belongs : (types : List Row) (ps : List Param) (id : TypeId) → AllByRecursion (λ (q : Param). BelongsTo types q.body) ps → only_parameter ps ≡ Some id → BelongsTo types id
-only_belongs types [] id a e = absurd (cc)
-only_belongs types (q ∷ []) id a e = let s : q.body ≡ id = cc in subst (BelongsTo types) s a.0
-only_belongs types (q ∷ (r ∷ qs)) id a e = absurd (cc)
 
 -- and it is there
 pub input_belongs : (types : List Row) (exprs : List ExprRow) (fs : List FunctionRow) (id : TypeId) → AllByRecursion (FunctionStands types exprs) fs → main_parameter fs ≡ Some id → BelongsTo types id

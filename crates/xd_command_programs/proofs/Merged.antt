@@ -18,7 +18,7 @@ use Rattle.xd_report.specs.WarningText.{warning_text}
 use Rattle.xd_command_programs.specs.Report.{line_text, lines_text, said}
 use Rattle.xd_command_steps.specs.Merging.{IsMerged, no_more, a_fault, a_warning, stands_behind, is_placed_behind}
 
-is_dead : (k : LineKind) → is_warning k ≡ true → k ≡ dead_clause
+pub is_dead : (k : LineKind) → is_warning k ≡ true → k ≡ dead_clause
 is_dead dead_clause e = refl
 is_dead not_exhaustive e = absurd (cc)
 is_dead wrong_argument e = absurd (cc)

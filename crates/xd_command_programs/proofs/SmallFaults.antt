@@ -6,6 +6,7 @@ use Rattle.xd_doc.specs.Document.{Document, canonical_text, size}
 use Rattle.xd_doc.specs.LeastUpTo.{size_up_to}
 use Rattle.xd_doc.specs.Stored.{document_at}
 use Rattle.xd_doc.specs.declared.store.Seq.{Seq}
+use Rattle.xd_doc.proofs.Numbers.{le_lt}
 use Rattle.xd_least.proofs.SizeLemmas.{size_written}
 use Rattle.xd_syntax.specs.Order.{number_of}
 use Rattle.xd_syntax.specs.Program.{ProgramTree}
@@ -32,9 +33,6 @@ among a b c d x e = simp length-append (omega arith)
 
 below : (k l m n o : ℕ) → k ≤ l → l ≤ m → m ≤ n → n < o → k < o
 below k l m n o a b c d = omega arith
-
-nearer : (m n o : ℕ) → m ≤ n → n < o → m < o
-nearer m n o a b = omega arith
 
 module _ (ds : List Document) where
   -- a fault's document is written in its line
@@ -65,10 +63,10 @@ module _ (ds : List Document) where
     small_faults [] fs ws t a m lt = tt
     small_faults (l ∷ ls) [] ws t a m lt = absurd a
     small_faults (l ∷ ls) (f ∷ fs) ws t a (a_fault n m) lt = (
-      small_fault l f a.0 (nearer (length (fault_text ds f)) _ limit (before (fault_text ds f) _) lt),
-      small_faults ls fs ws _ a.1 m (nearer _ _ limit (behind (fault_text ds f) _) lt),
+      small_fault l f a.0 (le_lt (length (fault_text ds f)) _ limit (before (fault_text ds f) _) lt),
+      small_faults ls fs ws _ a.1 m (le_lt _ _ limit (behind (fault_text ds f) _) lt),
     )
-    small_faults (l ∷ ls) (f ∷ fs) (w ∷ ws) t a (a_warning n m) lt = small_faults (l ∷ ls) (f ∷ fs) ws _ a m (nearer _ _ limit (behind (warning_text w) _) lt)
+    small_faults (l ∷ ls) (f ∷ fs) (w ∷ ws) t a (a_warning n m) lt = small_faults (l ∷ ls) (f ∷ fs) ws _ a m (le_lt _ _ limit (behind (warning_text w) _) lt)
 
   -- so lines whose documents are least up to a limit are the lines of the program, where the text
   -- has fewer bytes

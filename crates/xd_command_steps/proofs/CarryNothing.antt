@@ -1,5 +1,5 @@
 -- Faults of names and of recursion carry no documents.
-use Rattle.std.proofs.Common.{◌≡◌, ℕ, zero, suc, ◌<◌, arith, get_or, Bool, true, false, not, cond, ◌||◌, List, [], ◌∷◌, ◌++◌, map, flat_map, length, nat_eq, Option, Some, None, sym, subst}
+use Rattle.std.proofs.Common.{ℕ, Bool, true, false, not, cond, ◌||◌, List, [], ◌∷◌, ◌++◌, map, flat_map, length, nat_eq, Option, Some, None, sym, subst}
 use Rattle.std.specs.List.{AllByRecursion}
 use Rattle.xd_base.specs.declared.Place.{Place}
 use Rattle.xd_syntax.specs.Placed.{PlacedTree, Empty_at, Text_at, Words_at, Name_at, Elem_at, Seq_at, Alt_at, Star_at, Plus_at, Opt_at, Val_at, variables}
@@ -139,9 +139,3 @@ pub recursion_carry : (P : ProgramTree) (fs : List Fault) → AreRecursionFaults
 recursion_carry P fs r =
     subst CarryNothing (sym r.listed) (all_ordered [] (map not_tail_fault r.outside ++ map unguarded_fault r.unguarded) tt
     (all_append (map not_tail_fault r.outside) (map unguarded_fault r.unguarded) (all_map not_tail_fault (λ w. tt) r.outside) (all_map unguarded_fault (λ w. tt) r.unguarded)))
-
--- what each of a list has, one of them has
-pub all_at : {A : Type 0} (Q : A → Type 0) (xs : List A) (i : ℕ) (x : A) → AllByRecursion Q xs → i < length xs → x ≡ get_or xs i x → Q x
-all_at Q [] i x a l e = absurd (omega arith)
-all_at Q (y ∷ ys) zero x a l e = subst Q (sym e) a.0
-all_at Q (y ∷ ys) (suc i) x a l e = all_at Q ys i x a.1 (omega arith) e

@@ -1,8 +1,10 @@
 -- A state that mirrors a continuation accepts what the continuation means.
-use Rattle.std.proofs.Common.{◌≡◌, ℕ, Bool, true, false, ◌||◌, ◌&&◌, ◌⊎◌, ◌↔◌, List, ◌∷◌, Some, refl, sym, subst, ◌∙◌, inl, inr}
+use Rattle.std.proofs.Common.{◌≡◌, ℕ, Bool, true, ◌&&◌, ◌↔◌, List, ◌∷◌, Some, refl, sym, subst, ◌∙◌, inl, inr}
 use Rattle.std.specs.List.{list_any}
+use Rattle.std.proofs.lemmas.Bool.{and_from, or_left, or_right}
 use Rattle.xd_doc.specs.Document.{Document, empty, text, element}
 use Rattle.xd_doc.specs.Classes.{LabelClass, TextClass, class_has}
+use Rattle.xd_doc.proofs.Bools.{and_parts, or_cases}
 use Rattle.xd_syntax.specs.Tree.{Tree, Definitions, seq_of}
 use Rattle.xd_syntax.specs.Fits.{Fits}
 use Rattle.xd_syntax.specs.Ways.{Among}
@@ -27,24 +29,6 @@ Starts E ms d = (m : Move) × Among m ms × Begins E (head_of m) d
 starts_later : (E : Definitions) (m : Move) (ms : List Move) (d : Document) → Starts E ms d → Starts E (m ∷ ms) d
 starts_later E m ms d r = (r.0, inr r.1, r.2)
 
-or_parts : (a b : Bool) → (a || b) ≡ true → (a ≡ true) ⊎ (b ≡ true)
-or_parts true b h = inl refl
-or_parts false b h = inr h
-
-or_left : (a b : Bool) → a ≡ true → (a || b) ≡ true
-or_left a b h = rw h refl
-
-or_right : (a b : Bool) → b ≡ true → (a || b) ≡ true
-or_right true b h = refl
-or_right false b h = h
-
-and_parts : (a b : Bool) → (a && b) ≡ true → (a ≡ true) × (b ≡ true)
-and_parts true b h = (refl, h)
-and_parts false b h = cc
-
-and_both : (a b : Bool) → a ≡ true → b ≡ true → (a && b) ≡ true
-and_both a b p q = rw (p, q) refl
-
 -- ---- the moves of one state, where P and Q say what the states that they lead to accept
 
 -- a kind has one class, and is of labels or of texts
@@ -66,7 +50,7 @@ module _ (E : Definitions) (C : Continuations) (s : List ℕ) (r : Document) (P 
   text_starts no_move h = cc
   text_starts (on_label {m} {ms} {l} {ls} {ts} k c e a) h = starts_later E m ms (text s r) (text_starts a h)
   text_starts (on_text {m} {ms} {ls} {t} {ts} k e a) h =
-      elim (or_parts (takes_text t) (list_any takes_text ts) h) [
+      elim (or_cases (takes_text t) (list_any takes_text ts) h) [
         | inl p ↦ let u = and_parts (class_has t.words s) (P t.rest) p in (m, inl refl, (t.words, k, u.0, (right t.rest m.rest e).0 u.1))
         | inr q ↦ starts_later E m ms (text s r) (text_starts a q)
       ]
@@ -86,7 +70,7 @@ module _ (E : Definitions) (C : Continuations) (s : List ℕ) (r : Document) (P 
             let b : Begins E (head_of m) (text s r) = subst (λ v. Begins E (head_of v) (text s r)) (sym q) h.2 in
             let y = one_text_class m.kind b.0 t.words b.1 k in
             or_left (takes_text t) (list_any takes_text ts)
-            (and_both (class_has t.words s) (P t.rest) (subst (λ w. class_has w s ≡ true) y b.2) ((right t.rest m.rest e).1 b.3))
+            (and_from (class_has t.words s) (P t.rest) (subst (λ w. class_has w s ≡ true) y b.2) ((right t.rest m.rest e).1 b.3))
         | inr q ↦ or_right (takes_text t) (list_any takes_text ts) (starts_text a (h.0, q, h.2))
       ]
 
@@ -99,7 +83,7 @@ module _ (E : Definitions) (C : Continuations) (w : List ℕ) (k r : Document) (
   element_starts : {ms : List Move} {ls : List LabelMove} {ts : List TextMove} → AreMirrored C ms ls ts → list_any takes ls ≡ true → Starts E ms (element w k r)
   element_starts no_move h = cc
   element_starts (on_label {m} {ms} {l} {ls} {ts} q c e a) h =
-      elim (or_parts (takes l) (list_any takes ls) h) [
+      elim (or_cases (takes l) (list_any takes ls) h) [
         | inl p ↦
             let u = and_parts (class_has l.class w) (P l.content && Q l.rest) p in
             let v = and_parts (P l.content) (Q l.rest) u.1 in
@@ -116,8 +100,8 @@ module _ (E : Definitions) (C : Continuations) (w : List ℕ) (k r : Document) (
             let b : Begins E (head_of m) (element w k r) = subst (λ v. Begins E (head_of v) (element w k r)) (sym i) h.2 in
             let y = one_label_class m.kind b.0 l.class b.1 q in
             or_left (takes l) (list_any takes ls)
-            (and_both (class_has l.class w) (P l.content && Q l.rest) (subst (λ d. class_has d w ≡ true) y b.2)
-            (and_both (P l.content) (Q l.rest) ((inside l.content m.content c).1 b.3) ((right l.rest m.rest e).1 b.4)))
+            (and_from (class_has l.class w) (P l.content && Q l.rest) (subst (λ d. class_has d w ≡ true) y b.2)
+            (and_from (P l.content) (Q l.rest) ((inside l.content m.content c).1 b.3) ((right l.rest m.rest e).1 b.4)))
         | inr i ↦ or_right (takes l) (list_any takes ls) (starts_element a (h.0, i, h.2))
       ]
   starts_element (on_text {m} {ms} {ls} {t} {ts} q e a) h =

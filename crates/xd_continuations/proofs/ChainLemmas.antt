@@ -4,13 +4,13 @@ use Rattle.std.specs.List.{AllByRecursion, list_any, slice_get}
 use Rattle.std.specs.Prelude.{if◌then◌else◌}
 use Rattle.std.proofs.Math.ListN.{get_or-append}
 use Rattle.std.proofs.Math.Seq.{get_or-append_seam}
+use Rattle.xd_doc.proofs.Lists.{all_append}
 use Rattle.xd_syntax.specs.Ways.{Among}
 use Rattle.xd_syntax.proofs.Members.{mem_append, append_left, append_right, map_mem, flat_mem}
 use Rattle.xd_laws.proofs.Pigeon.{NoRepeat, pigeon}
 use Rattle.xd_continuations.specs.Bounds.{lists_within}
 use Rattle.xd_continuations.specs.Chains.{lists_after, lists_in, list_at, AreLinksAfter, AreLinks, HasLink, KeepsLinks, room}
 use Rattle.xd_continuations.specs.declared.links.Link.{Link}
-use Rattle.xd_continuations.proofs.MoveLemmas.{all_append}
 use Rattle.xd_continuations.proofs.FiniteLemmas.{all_among, among_lists}
 
 pub get_among : {A : Type 0} (d : A) (xs : List A) (i : ℕ) → i < length xs → Among (get_or xs i d) xs

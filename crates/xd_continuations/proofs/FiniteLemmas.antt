@@ -2,6 +2,7 @@
 use Rattle.std.proofs.Common.{◌≡◌, ℕ, zero, suc, ◌+◌, ◌≤◌, arith, Bool, true, false, cond, List, [], ◌∷◌, ◌++◌, map, flat_map, length, Option, Some, None, refl, sym, subst, inl, inr, append-nil, append_assoc}
 use Rattle.std.specs.Str.{bytes_eq}
 use Rattle.std.specs.List.{AllByRecursion}
+use Rattle.xd_doc.proofs.Lists.{all_more, all_append}
 use Rattle.xd_syntax.specs.Tree.{Tree, Empty, Text, Words, Name, Elem, Seq, Alt, Star, Plus, Opt, Val, Definitions, body}
 use Rattle.xd_doc.specs.Classes.{LabelClass}
 use Rattle.xd_syntax.specs.Ways.{Among}
@@ -11,17 +12,13 @@ use Rattle.xd_syntax.proofs.Members.{append_left, append_right, flat_mem, map_me
 use Rattle.xd_continuations.specs.Continuation.{Move, followed, moves_by, definition_within, name_within, moves_along, moves}
 use Rattle.xd_continuations.specs.TailUses.{RecursOnlyInTail}
 use Rattle.xd_continuations.specs.Bounds.{Reached, at_start, by_content, by_rest, node_count, NoneLarger, parts, all_parts, nodes_of, longest, lists_within, possible, IsBounded}
-use Rattle.xd_continuations.proofs.MoveLemmas.{all_append, all_map, all_cond}
+use Rattle.xd_continuations.proofs.MoveLemmas.{all_map, all_cond}
 use Rattle.xd_continuations.proofs.IsBoundedLemmas.{smaller_body, bounded_length, bounded_none, bounded_rest, bounded_pieces, bounded_seq, bounded_seq_rest, bounded_alt, bounded_alt_rest, bounded_star, bounded_plus, bounded_opt, bounded_val, bounded_start, bounded_name}
 
 pub all_among : {A : Type 0} (P : A → Type 0) (xs : List A) → AllByRecursion P xs → (x : A) → Among x xs → P x
 all_among P [] a x m = absurd m
 all_among P (y ∷ xs) a x (inl e) = subst P e a.0
 all_among P (y ∷ xs) a x (inr m) = all_among P xs a.1 x m
-
-pub all_same : {A : Type 0} (P Q : A → Type 0) (xs : List A) → ((x : A) → P x → Q x) → AllByRecursion P xs → AllByRecursion Q xs
-all_same P Q [] h a = tt
-all_same P Q (x ∷ xs) h a = (h x a.0, all_same P Q xs h a.1)
 
 -- ---- what the parts of types keep
 
@@ -216,5 +213,5 @@ finitely_many E tail T {K} r =
     let small = none_larger E m (omega arith) in
     let k = reached_keeps E m (IsPartOf (all_parts E T) m) (parts_kept E T m small) (λ U q. q.few) tail small T (start_part E T m small (omega arith)) r in
     among_lists (all_parts E T) (longest E m) K
-    (all_same (IsPartOf (all_parts E T) m) (λ U. Among U (all_parts E T)) K (λ U q. q.parts_listed U (itself U)) k.0)
+    (all_more (IsPartOf (all_parts E T) m) (λ U. Among U (all_parts E T)) K (λ U q. q.parts_listed U (itself U)) k.0)
     (bounded_length E m K k.1)

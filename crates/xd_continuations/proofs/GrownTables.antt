@@ -1,11 +1,11 @@
 -- Tables to which rows were added, and tables of programs.
 use Rattle.std.proofs.Common.{◌≡◌, ℕ, ◌<◌, ◌≤◌, arith, List, length, length-append, ap, sym, subst, ◌∙◌}
 use Rattle.std.specs.List.{AllByRecursion}
+use Rattle.xd_doc.proofs.Lists.{all_more}
 use Rattle.xd_syntax.specs.Kept.{ProgramStands, ProgramTable, TypeDefStands}
 use Rattle.xd_syntax.specs.Table.{Row, KeepsRows, tree_at}
 use Rattle.xd_syntax.specs.declared.types.TypeDef.{TypeDef}
 use Rattle.xd_syntax.proofs.Trees.{tree_kept}
-use Rattle.xd_continuations.proofs.FiniteLemmas.{all_same}
 
 module _ (old new : List Row) (k : KeepsRows old new) where
   pub tree_stays : (i : ℕ) → i < length old → tree_at new i ≡ tree_at old i
@@ -15,11 +15,5 @@ module _ (old new : List Row) (k : KeepsRows old new) where
   more_rows = let e = ap length k.grown in omega (arith, length-append old k.more)
 
 -- types and definitions that are those of a program
-pub along : (p : ProgramTable) (types : List Row) (ds : List TypeDef) (Q : List Row → List TypeDef → Type 0) → types ≡ p.types → ds ≡ p.type_defs → Q p.types p.type_defs → Q types ds
-along p types ds Q e f q = subst (λ d. Q types d) (sym f) (subst (λ t. Q t p.type_defs) (sym e) q)
-
-pub back_along : (p : ProgramTable) (types : List Row) (ds : List TypeDef) (Q : List Row → List TypeDef → Type 0) → types ≡ p.types → ds ≡ p.type_defs → Q types ds → Q p.types p.type_defs
-back_along p types ds Q e f q = subst (λ d. Q p.types d) f (subst (λ t. Q t ds) e q)
-
 pub bodies_stand : (p : ProgramTable) → ProgramStands p → AllByRecursion (λ (d : TypeDef). d.body.at < length p.types) p.type_defs
-bodies_stand p s = all_same (TypeDefStands p.types) (λ d. d.body.at < length p.types) p.type_defs (λ d t. t.body) s.type_defs
+bodies_stand p s = all_more (TypeDefStands p.types) (λ d. d.body.at < length p.types) p.type_defs (λ d t. t.body) s.type_defs

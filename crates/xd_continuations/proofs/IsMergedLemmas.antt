@@ -1,6 +1,7 @@
 -- The definitions of a program that is kept in tables are merged.
-use Rattle.std.proofs.Common.{◌≡◌, ℕ, zero, suc, ◌+◌, ◌<◌, arith, true, false, ◌||◌, ◌⊎◌, List, [], ◌∷◌, ◌++◌, map, length, length-append, refl, ap, sym, subst, ◌∙◌, inl, inr, append-nil, append_assoc}
+use Rattle.std.proofs.Common.{◌≡◌, ℕ, ◌+◌, ◌<◌, arith, true, false, ◌||◌, List, [], ◌∷◌, ◌++◌, map, length, length-append, refl, ap, sym, subst, ◌∙◌, inl, inr, append-nil, append_assoc}
 use Rattle.std.specs.List.{AllByRecursion}
+use Rattle.xd_doc.proofs.Numbers.{less_cases}
 use Rattle.xd_syntax.specs.Tree.{Tree, Empty, Text, Words, Name, Elem, Seq, Alt, Star, Plus, Opt, Val, seq_of, is_empty}
 use Rattle.xd_syntax.specs.TreeForms.{alt_of, is_seq}
 use Rattle.xd_syntax.specs.Table.{Row, Form, empty_form, text_form, words_form, name_form, elem_form, seq_form, alt_form, star_form, plus_form, opt_form, val_form, form_tree, tree_at, IsSeqPart, IsAltPart, CanFollow, AreBuiltAfter, AreBuilt}
@@ -51,16 +52,10 @@ module _ (rows : List Row) (merged : (i : ℕ) → i < length rows → IsMerged 
   form_merged (opt_form i) c = merged i c
   form_merged (val_form x p i) c = let e : false ≡ true = c.0 in cc
 
-cases_last : (i n : ℕ) → i < n + 1 → (i < n) ⊎ (i ≡ n)
-cases_last zero zero h = inr refl
-cases_last zero (suc n) h = inl (omega arith)
-cases_last (suc i) zero h = absurd (omega arith)
-cases_last (suc i) (suc n) h = elim (cases_last i n (omega arith)) [ inl l ↦ inl (omega arith) | inr e ↦ inr (ap suc e) ]
-
 row_merged : (older : List Row) (r : Row) → ((i : ℕ) → i < length older → IsMerged (tree_at older i)) → CanFollow false older r.form →
     (i : ℕ) → i < length (older ++ r ∷ []) → IsMerged (tree_at (older ++ r ∷ []) i)
 row_merged older r m c i h =
-    elim (cases_last i (length older) (omega (arith, length-append older (r ∷ [])))) [
+    elim (less_cases i (length older) (omega (arith, length-append older (r ∷ [])))) [
       | inl l ↦ subst IsMerged (sym (tree_kept older (r ∷ []) i l)) (m i l)
       | inr e ↦ subst IsMerged (sym (ap (tree_at (older ++ r ∷ [])) e ∙ tree_new older r)) (form_merged older m r.form c)
     ]

@@ -1,8 +1,10 @@
 -- Where uses outside every label lead, and how many definitions they lead to.
-use Rattle.std.proofs.Common.{◌≡◌, ℕ, zero, suc, ◌+◌, ◌≤◌, arith, Bool, true, false, cond, ◌||◌, ◌⊎◌, List, [], ◌∷◌, map, length, Option, Some, None, refl, ap, sym, subst, ◌∙◌, inl, inr}
+use Rattle.std.proofs.Common.{◌≡◌, ℕ, zero, suc, ◌+◌, ◌≤◌, arith, Bool, true, false, cond, List, [], ◌∷◌, map, length, Option, Some, None, refl, ap, sym, subst, ◌∙◌, inl, inr}
 use Rattle.std.specs.Str.{bytes_eq}
 use Rattle.std.proofs.lemmas.List.{length-map}
 use Rattle.std.proofs.lemmas.Slice.Eq.{bytes_eq-Decides}
+use Rattle.std.proofs.lemmas.Bool.{or_right}
+use Rattle.xd_doc.proofs.Bools.{or_cases}
 use Rattle.xd_syntax.specs.Words.{has_word}
 use Rattle.xd_syntax.specs.Tree.{Tree, Empty, Text, Words, Name, Elem, Seq, Alt, Star, Plus, Opt, Val, Definitions, body}
 use Rattle.xd_syntax.specs.Ways.{Among}
@@ -14,20 +16,12 @@ use Rattle.xd_continuations.specs.Bounds.{names_used, led_to, leads, count_named
 
 -- ---- words in a list
 
-or_parts : (a b : Bool) → (a || b) ≡ true → (a ≡ true) ⊎ (b ≡ true)
-or_parts true b h = inl refl
-or_parts false b h = inr h
-
-or_right : (a b : Bool) → b ≡ true → (a || b) ≡ true
-or_right true b h = refl
-or_right false b h = h
-
 has_among : (xs : List (List ℕ)) (w : List ℕ) → has_word xs w ≡ true → Among w xs
 has_among [] w h = cc
 has_among (x ∷ xs) w h =
-    elim (or_parts (bytes_eq x w) (has_word xs w) h) [ inl a ↦ inl ((bytes_eq-Decides x w).0 a) | inr b ↦ inr (has_among xs w b) ]
+    elim (or_cases (bytes_eq x w) (has_word xs w) h) [ inl a ↦ inl ((bytes_eq-Decides x w).0 a) | inr b ↦ inr (has_among xs w b) ]
 
-among_has : (xs : List (List ℕ)) (w : List ℕ) → Among w xs → has_word xs w ≡ true
+pub among_has : (xs : List (List ℕ)) (w : List ℕ) → Among w xs → has_word xs w ≡ true
 among_has [] w m = absurd m
 among_has (x ∷ xs) w (inl e) = rw ((bytes_eq-Decides x w).1 e) refl
 among_has (x ∷ xs) w (inr m) = or_right (bytes_eq x w) (has_word xs w) (among_has xs w m)

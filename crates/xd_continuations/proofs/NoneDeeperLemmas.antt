@@ -2,13 +2,15 @@
 use Rattle.std.proofs.Common.{◌≡◌, ◌≤◌, ℕ, zero, suc, ◌+◌, max, arith, Bool, true, false, cond, List, [], ◌∷◌, map, length, Option, Some, None, refl, sym, subst}
 use Rattle.std.specs.Str.{bytes_eq}
 use Rattle.std.specs.List.{AllByRecursion}
+use Rattle.xd_doc.proofs.Lists.{all_append}
 use Rattle.xd_syntax.specs.Tree.{Tree, Empty, Text, Words, Name, Elem, Seq, Alt, Star, Plus, Opt, Val, Definitions, body, seq_of, is_empty}
 use Rattle.xd_syntax.specs.TypeText.{Level, any_type_level, sequence_level, postfix_level, primary_level, alternative_wants, sequence_wants, postfix_wants, deeper, depth_at_level, depth}
+use Rattle.xd_sound.proofs.Reached.{sequence_below_postfix}
 use Rattle.xd_meaning.specs.CanBeEmpty.{can_be_empty}
 use Rattle.xd_meaning.specs.Heads.{pieces}
 use Rattle.xd_continuations.specs.Continuation.{Move, followed, moves_by, definition_within, name_within, moves_within, moves_along, moves, is_piece, IsMerged, AreMerged, IsContinuation}
 use Rattle.xd_continuations.specs.Depths.{NoneDeeper, IsNoDeeper}
-use Rattle.xd_continuations.proofs.MoveLemmas.{all_append, all_map, all_cond, seq_of-pieces, merged_body}
+use Rattle.xd_continuations.proofs.MoveLemmas.{all_map, all_cond, seq_of-pieces, merged_body}
 
 -- ---- levels
 
@@ -29,20 +31,6 @@ level_more v (Star T) = deeper_more (postfix_wants v) (depth_at_level primary_le
 level_more v (Plus T) = deeper_more (postfix_wants v) (depth_at_level primary_level T)
 level_more v (Opt T) = deeper_more (postfix_wants v) (depth_at_level primary_level T)
 level_more v (Val x T) = level_more v T
-
--- a type that stands as a part of a sequence is no deeper at its end
-part_end : (T : Tree) → depth_at_level sequence_level T ≤ depth_at_level postfix_level T
-part_end Empty = omega arith
-part_end Text = omega arith
-part_end (Words w) = omega arith
-part_end (Name x) = omega arith
-part_end (Elem c T) = omega arith
-part_end (Seq T U) = omega arith
-part_end (Alt T U) = omega arith
-part_end (Star T) = omega arith
-part_end (Plus T) = omega arith
-part_end (Opt T) = omega arith
-part_end (Val x T) = part_end T
 
 module _ (limit : ℕ) (some : 1 ≤ limit) where
   -- a part of a sequence is no deeper
@@ -88,7 +76,7 @@ module _ (limit : ℕ) (some : 1 ≤ limit) where
 
   parts_end : (K : List Tree) → AllByRecursion IsPart K → depth_at_level sequence_level (seq_of K) ≤ limit
   parts_end [] a = some
-  parts_end (T ∷ []) a = let h = a.0 in let e = part_end T in omega arith
+  parts_end (T ∷ []) a = let h = a.0 in let e = sequence_below_postfix T in omega arith
   parts_end (T ∷ (U ∷ Us)) a = both_of (depth_at_level postfix_level T) (depth_at_level sequence_level (seq_of (U ∷ Us))) a.0 (parts_end (U ∷ Us) a.1)
 
   -- and the parts of a sequence at its end are no deeper

@@ -1,5 +1,7 @@
 -- A stack of tasks gives the moves of a continuation, in order, and is worked off.
 use Rattle.std.proofs.Common.{◌≡◌, ℕ, zero, suc, ◌+◌, ◌≤◌, arith, Bool, true, false, cond, List, [], ◌∷◌, ◌++◌, map, flat_map, length, Option, Some, None, refl, ap, sym, subst, ◌∙◌, append-nil, append_assoc}
+use Rattle.std.proofs.lemmas.Grind.{flat_map-append}
+use Rattle.xd_doc.proofs.Lists.{map_append}
 use Rattle.xd_syntax.specs.Tree.{Tree, Empty, Text, Words, Name, Elem, Seq, Alt, Star, Plus, Opt, Val, Definitions, body}
 use Rattle.xd_laws.specs.Guarded.{Guarded}
 use Rattle.xd_meaning.specs.Heads.{pieces}
@@ -7,12 +9,8 @@ use Rattle.xd_laws.proofs.HeadsLaw.{empty_right}
 use Rattle.xd_meaning.specs.CanBeEmpty.{can_be_empty}
 use Rattle.xd_continuations.specs.Continuation.{Move, followed, moves_by, moves_within, moves_along, moves}
 use Rattle.xd_continuations.specs.Expansion.{Task, in_front, options, task, definition_task, own_moves, tasks_left, Gives, all_done, work, tasks_of, task_moves, moves_to_come, work_by, work_of, sum_of_work, work_left}
-use Rattle.xd_continuations.proofs.MoveLemmas.{map_append, map_cond}
+use Rattle.xd_continuations.proofs.MoveLemmas.{map_cond}
 use Rattle.xd_continuations.proofs.NameWithinLemmas.{named, undefined, moves_read, work_reads}
-
-flat_append : {A B : Type 0} (f : A → List B) (xs ys : List A) → flat_map f (xs ++ ys) ≡ flat_map f xs ++ flat_map f ys
-flat_append f [] ys = refl
-flat_append f (x ∷ xs) ys = ap (λ zs. f x ++ zs) (flat_append f xs ys) ∙ sym (append_assoc (f x) (flat_map f xs) (flat_map f ys))
 
 map_followed : (P K : List Tree) (ms : List Move) → map (followed K) (map (followed P) ms) ≡ map (followed (P ++ K)) ms
 map_followed P K [] = refl
@@ -106,7 +104,7 @@ module _ (E : Definitions) where
     step_gives T K ts =
         ap (λ zs. zs ++ flat_map (task_moves E) ts) (given T K)
         ∙ append_assoc (own_moves T K) (flat_map (task_moves E) (tasks_left E T K)) (flat_map (task_moves E) ts)
-        ∙ ap (λ zs. own_moves T K ++ zs) (sym (flat_append (task_moves E) (tasks_left E T K) ts))
+        ∙ ap (λ zs. own_moves T K ++ zs) (sym (flat_map-append (task_moves E) (tasks_left E T K) ts))
 
     pub none_to_come : moves_to_come E [] ≡ []
     unfolding moves_to_come

@@ -1,5 +1,6 @@
 -- The laws of continuations.
 use Rattle.std.proofs.Common.{[], sym, subst, ◌∙◌, append-nil}
+use Rattle.xd_doc.proofs.Lists.{all_more}
 use Rattle.xd_syntax.specs.Tree.{seq_of}
 use Rattle.xd_syntax.specs.Fits.{Fits}
 use Rattle.xd_syntax.specs.Ways.{Among}
@@ -18,7 +19,7 @@ use Rattle.xd_continuations.proofs.AreMirroredLemmas.{mirrors_accept}
 use Rattle.xd_continuations.proofs.IsMergedLemmas.{program_merged}
 use Rattle.xd_continuations.proofs.MoveLemmas.{pieces_stand, pieces-seq_of, seq_of-pieces, IsMove, moves_are_heads, moves_continue}
 use Rattle.xd_continuations.proofs.IsBoundedLemmas.{bounded_larger, bounded_length, bounded_rest, bounded_pieces, bounded_start}
-use Rattle.xd_continuations.proofs.FiniteLemmas.{all_same, finitely_many}
+use Rattle.xd_continuations.proofs.FiniteLemmas.{finitely_many}
 use Rattle.xd_continuations.proofs.SoundTail.{recurs_only_in_tail}
 use Rattle.xd_continuations.proofs.TaskBounds.{along_bounded, left_bounded}
 use Rattle.xd_continuations.proofs.TaskLemmas.{tasks_stand, step_gives, step_falls, gives_moves, all_worked}
@@ -34,7 +35,7 @@ moves_are_heads_in E m K k = moves_are_heads E m K k
 
 pub moves_continue_in : MovesContinue
 moves_continue_in E m K k =
-    all_same IsMove (λ v. IsContinuation v.content × IsContinuation v.rest) (moves E K) (λ v i. (i.content, i.rest)) (moves_continue E m K k)
+    all_more IsMove (λ v. IsContinuation v.content × IsContinuation v.rest) (moves E K) (λ v i. (i.content, i.rest)) (moves_continue E m K k)
 
 pub moves_decide : MovesDecide
 moves_decide P s merged K k d i = (there, back)

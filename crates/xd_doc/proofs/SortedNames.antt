@@ -16,7 +16,7 @@ R x y = slice_cmp nat_cmp x y
 pub same_is : (x y : List ℕ) → pointwise nat_eq x y ≡ true → x ≡ y
 same_is x y h = (bytes_eq-Decides x y).0 h
 
-is_same : (x : List ℕ) → pointwise nat_eq x x ≡ true
+pub is_same : (x : List ℕ) → pointwise nat_eq x x ≡ true
 is_same x = (bytes_eq-Decides x x).1 refl
 
 less_apart : (x y : List ℕ) → R x y ≡ Less → pointwise nat_eq x y ≡ false
@@ -44,7 +44,7 @@ below_all : (x y : List ℕ) (ys : List (List ℕ)) → R x y ≡ Less → AllBy
 below_all x y [] h a = tt
 below_all x y (z ∷ zs) h a = (nat_list_cmp_total.trans x y z h a.0, below_all x y zs h a.1)
 
-has_first : (x : List ℕ) (xs : List (List ℕ)) → is_named (x ∷ xs) x ≡ true
+pub has_first : (x : List ℕ) (xs : List (List ℕ)) → is_named (x ∷ xs) x ≡ true
 has_first x xs = rw (is_same x) refl
 
 equal_same : (x y : List ℕ) → R x y ≡ Equal → x ≡ y
@@ -55,7 +55,7 @@ equal_same x y h = same_is x y (texts_ties x y ∙ ap (λ (o : Ordering). is_equ
     is_equal Equal = true
     is_equal Greater = false
 
-or_false : (b : Bool) → (b || false) ≡ b
+pub or_false : (b : Bool) → (b || false) ≡ b
 or_false true = refl
 or_false false = refl
 

@@ -7,11 +7,12 @@ use Rattle.xd_doc.specs.Document.{Document, empty, text, element, is_proper, has
 use Rattle.xd_doc.specs.DocumentCode.{rest_of, content_of, first_then, breadth}
 use Rattle.xd_doc.specs.Stored.{at_node, document_at}
 use Rattle.xd_doc.specs.StoredSeq.{IsBelow, BelongsTo}
-use Rattle.xd_doc.specs.StoreNodes.{item_before, is_proper_item, node_document, documents_after, documents, AreLinked, IsLinked, IsBare, Keeps, IsOlder, first_of_document, firsts_then, joined_at, breadth_before_last}
+use Rattle.xd_doc.specs.StoreNodes.{item_before, is_proper_item, node_document, documents_after, documents, AreLinked, IsLinked, IsBare, Keeps, IsOlder, first_of_document, firsts_then, joined_at, breadth_before_last, no_items}
 use Rattle.xd_doc.specs.declared.store.Seq.{Seq}
 use Rattle.xd_doc.specs.declared.store.Node.{Node}
 use Rattle.xd_doc.specs.declared.store.Item.{Item}
 use Rattle.xd_doc.specs.declared.store.Item.TheVariants.{Text, Elem}
+use Rattle.xd_doc.proofs.Joins.{join_empty-right}
 
 pub documents_after-append : (ds : List Document) (xs ys : List Node) → documents_after ds (xs ++ ys) ≡ documents_after (documents_after ds xs) ys
 documents_after-append ds [] ys = refl
@@ -277,14 +278,9 @@ breadth_more ds (x ∷ []) i d lt = absurd (omega arith)
 breadth_more ds (x ∷ (y ∷ ys)) zero d lt = refl
 breadth_more ds (x ∷ (y ∷ ys)) (suc i) d lt = breadth_more ds (y ∷ ys) i d (omega arith)
 
-join-empty : (d : Document) → join d empty ≡ d
-join-empty empty = refl
-join-empty (text s r) = ap (text s) (join-empty r)
-join-empty (element l c r) = ap (element l c) (join-empty r)
-
 pub joined_last : (ds : List Document) (parts : List Seq) (i : ℕ) (d : Seq) → i + 1 ≡ length parts → document_at ds (get_or parts i d) ≡ joined_at ds (drop i parts)
 joined_last ds [] i d e = absurd (omega arith)
-joined_last ds (x ∷ []) zero d e = sym (join-empty (document_at ds x))
+joined_last ds (x ∷ []) zero d e = sym (join_empty-right (document_at ds x))
 joined_last ds (x ∷ []) (suc i) d e = absurd (omega arith)
 joined_last ds (x ∷ (y ∷ ys)) zero d e = absurd (omega arith)
 joined_last ds (x ∷ (y ∷ ys)) (suc i) d e = joined_last ds (y ∷ ys) i d (omega arith)
@@ -295,3 +291,6 @@ breadth_drop ds [] (suc i) = omega arith
 breadth_drop ds (x ∷ xs) zero = omega arith
 breadth_drop ds (x ∷ []) (suc i) = breadth_drop ds [] i
 breadth_drop ds (x ∷ (y ∷ ys)) (suc i) = omega (arith, breadth_drop ds (y ∷ ys) i)
+
+pub none_belongs : (ds : List Document) → BelongsTo ds no_items
+none_belongs ds = record { place = tt; proper = refl; filled = refl }

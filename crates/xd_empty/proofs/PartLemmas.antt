@@ -8,6 +8,7 @@ use Rattle.xd_doc.specs.Document.{Document, empty, text, element}
 use Rattle.xd_doc.specs.Stored.{document_at}
 use Rattle.xd_doc.specs.Classes.{class_has}
 use Rattle.xd_doc.specs.declared.store.Seq.{Seq}
+use Rattle.xd_doc.proofs.Bools.{and_left, and_right, and_false}
 use Rattle.xd_auto.specs.declared.auto.State.{State}
 use Rattle.xd_auto.specs.declared.auto.LabelMove.{LabelMove}
 use Rattle.xd_auto.specs.declared.auto.TextMove.{TextMove}
@@ -15,10 +16,6 @@ use Rattle.xd_auto.specs.Automaton.{Automaton, ChangesOnly, IsState, StateMoves,
 use Rattle.xd_auto.specs.Copying.{IsCopyOf, IsReached, is_content, is_rest, LeadsTo, by_element, by_text}
 use Rattle.xd_empty.specs.Inhabited.{AreInhabitants}
 use Rattle.xd_empty.specs.Parts.{AddsLabels, AddsTexts, AreMarks, HasDocument, IsInhabitedPart, IsKeptPart, is_marked, leads_on, text_leads_on}
-
-and_false : (b : Bool) → (b && false) ≡ false
-and_false true = refl
-and_false false = refl
 
 -- the marks of the states for which a document was found
 pub marks_are : (a : Automaton) (ds : List Document) (fs : List (Option Seq)) → AreInhabitants a ds fs → AreMarks a (map is_some fs)
@@ -72,14 +69,6 @@ passes {X} p (x ∷ xs) k d lt = go (p x) refl k lt (λ n l. passes p xs n d l)
 any_same : {X : Type 0} (f g : X → Bool) (xs : List X) → ((x : X) → f x ≡ g x) → list_any f xs ≡ list_any g xs
 any_same f g [] h = refl
 any_same f g (x ∷ xs) h = ap (λ w. w || list_any f xs) (h x) ∙ ap (λ w. g x || w) (any_same f g xs h)
-
-and_left : (x y : Bool) → (x && y) ≡ true → x ≡ true
-and_left true y e = refl
-and_left false y e = e
-
-and_right : (x y : Bool) → (x && y) ≡ true → y ≡ true
-and_right true y e = e
-and_right false y e = absurd (cc)
 
 module _ (a : Automaton) (marks : List Bool) (made : Automaton) (are : AreMarks a marks) (kept : IsKeptPart a marks made) where
   -- moves that lead to states without documents take nothing

@@ -14,11 +14,13 @@ use Rattle.xd_doc.specs.StoredSeq.{BelongsTo}
 use Rattle.xd_doc.specs.StoreNodes.{Keeps, no_items}
 use Rattle.xd_doc.specs.Classes.{class_has}
 use Rattle.xd_doc.specs.declared.store.Seq.{Seq}
+use Rattle.xd_doc.proofs.CopyLemmas.{none_contained}
+use Rattle.xd_doc.proofs.Bools.{and_false, and_and_false}
 use Rattle.xd_auto.specs.declared.auto.State.{State}
 use Rattle.xd_auto.specs.declared.auto.LabelMove.{LabelMove}
 use Rattle.xd_auto.specs.declared.auto.TextMove.{TextMove}
 use Rattle.xd_auto.specs.Automaton.{Automaton, IsState, StateMoves, accepts, moves_at, no_moves, state_number}
-use Rattle.xd_auto.proofs.Members.{first_in, first_or_later, none_in, only_in}
+use Rattle.xd_auto.proofs.Members.{first_in, first_or_later, only_in}
 use Rattle.xd_auto.proofs.Closed.{same_state}
 use Rattle.xd_empty.specs.declared.uses.Use.{Use}
 use Rattle.xd_empty.specs.declared.uses.Use.TheVariants.{Element, Text}
@@ -33,18 +35,9 @@ record IsStuck (a : Automaton) (fs : List (Option Seq)) (s : State) : Type 0 whe
   labels : All (λ (m : LabelMove). IsUnknown fs m.content ⊎ IsUnknown fs m.rest) (moves_at a s).labels
   texts : All (λ (m : TextMove). IsUnknown fs m.rest) (moves_at a s).texts
 
-and_false : (x : Bool) → (x && false) ≡ false
-and_false true = refl
-and_false false = refl
-
 and_first : (x y : Bool) → (x && (false && y)) ≡ false
 and_first true y = refl
 and_first false y = refl
-
-and_second : (x y : Bool) → (x && (y && false)) ≡ false
-and_second true true = refl
-and_second true false = refl
-and_second false y = refl
 
 -- where all states without a document are stuck or known to accept none, they accept none
 none_accepted : (a : Automaton) (fs : List (Option Seq)) → ((s : State) → IsUnknown fs s → ((d : Document) → accepts a d s ≡ false) ⊎ IsStuck a fs s) → (d : Document) (s : State) → IsUnknown fs s → accepts a d s ≡ false
@@ -65,7 +58,7 @@ none_accepted a fs h (element l c r) s u = elim (h s u) [
     step : (m : LabelMove) → ((q : State) → IsUnknown fs q → accepts a c q ≡ false) → ((q : State) → IsUnknown fs q → accepts a r q ≡ false) → IsUnknown fs m.content ⊎ IsUnknown fs m.rest
         → (class_has m.class l && (accepts a c m.content && accepts a r m.rest)) ≡ false
     step m hc hr (inl w) = rw (hc m.content w) (and_first (class_has m.class l) (accepts a r m.rest))
-    step m hc hr (inr w) = rw (hr m.rest w) (and_second (class_has m.class l) (accepts a c m.content))
+    step m hc hr (inr w) = rw (hr m.rest w) (and_and_false (class_has m.class l) (accepts a c m.content))
 
 pub witness_keeps : (a : Automaton) (ds es : List Document) (s : State) (seq : Seq) → Keeps ds es → IsWitness a ds s seq → IsWitness a es s seq
 witness_keeps a ds es s seq k w = record {
@@ -115,7 +108,7 @@ outside_accepts a s past empty = ap (λ (m : StateMoves). m.last) (outside a s p
 outside_accepts a s past (text t r) = ap (λ (m : StateMoves). list_any (λ (w : TextMove). class_has w.words t && accepts a r w.rest) m.texts) (outside a s past)
 outside_accepts a s past (element l c r) = ap (λ (m : StateMoves). list_any (λ (w : LabelMove). class_has w.class l && (accepts a c w.content && accepts a r w.rest)) m.labels) (outside a s past)
 
-is_state : (a : Automaton) (s : State) (k : ℕ) (count : StateMoves → ℕ) → count (no_moves false) ≡ 0 → k < count (moves_at a s) → IsState a s
+pub is_state : (a : Automaton) (s : State) (k : ℕ) (count : StateMoves → ℕ) → count (no_moves false) ≡ 0 → k < count (moves_at a s) → IsState a s
 is_state a s k count none lt = elim (cases_lt (state_number s) (length a)) [
   | inl l ↦ l
   | inr g ↦ (let e : count (moves_at a s) ≡ 0 = ap count (outside a s g) ∙ none in absurd (omega arith))
@@ -258,7 +251,7 @@ module _ (a : Automaton) (ds : List Document) (first n : ℕ) (fs : List (Option
       ];
       listed = λ u s there among from unknown. rw (uses_other uses t s [] (another s unknown)) (h.listed u s there among from (before s unknown));
       uses_there = λ s u c. elim (cases_eq (state_number s) (state_number t)) [
-        | inl e ↦ absurd (none_in u (rw (uses_here uses t [] in_uses) at (subst (λ q. Contains (uses_at (set uses (state_number t) []) q) u) (same_state s t e) c)))
+        | inl e ↦ absurd (none_contained u (rw (uses_here uses t [] in_uses) at (subst (λ q. Contains (uses_at (set uses (state_number t) []) q) u) (same_state s t e) c)))
         | inr ne ↦ h.uses_there s u (rw (uses_other uses t s [] ne) at c)
       ];
       waiting_there = λ u c. elim (Contains-append_cases waiting (uses_at uses t) u c) [ inl m ↦ h.waiting_there u m | inr m ↦ h.uses_there t u m ];
@@ -311,10 +304,6 @@ found_at fs n o seq l e is = get_or_default fs n None o l ∙ sym e ∙ is
 -- a document is there, where it is not that there is none
 pub not_unknown : (o : Option Seq) → is_some o ≡ true → o ≡ None → ⊥
 not_unknown o some none = let both : is_some o ≡ false = ap is_some none in absurd (cc)
-
-pub none_from : {X : Type 0} (o : Option X) → ((x : X) → o ≡ Some x → ⊥) → o ≡ None
-none_from None h = refl
-none_from (Some x) h = absurd (h x refl)
 
 -- a move on a text that leads to a state for which none was found
 pub text_lacks : (a : Automaton) (s : State) (n : ℕ) (moves : List TextMove) (fs : List (Option Seq)) (m : TextMove) → moves ≡ (moves_at a s).texts → IsUse a (Text s n) → m ≡ get_or moves n m → IsUnknown fs m.rest → LacksOne fs (parts_of a (Text s n))

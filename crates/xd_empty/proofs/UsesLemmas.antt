@@ -5,11 +5,12 @@ use Rattle.std.proofs.lemmas.Bool.{cases_eq, cases_lt}
 use Rattle.std.proofs.lemmas.List.{get_or-map, get_or-append_right, get_or-replicate, get_or_past, length-map, length-replicate, length-set, map-append, map-set, replicate_more, set-append_right, take_more}
 use Rattle.std.proofs.lemmas.Option.{slice_get-get_or}
 use Rattle.std.proofs.lemmas.List.Elements.{Contains-append_cases, Contains-append_left, Contains-push}
+use Rattle.xd_doc.proofs.CopyLemmas.{none_contained}
 use Rattle.xd_auto.specs.declared.auto.State.{State}
 use Rattle.xd_auto.specs.declared.auto.LabelMove.{LabelMove}
 use Rattle.xd_auto.specs.declared.auto.TextMove.{TextMove}
 use Rattle.xd_auto.specs.Automaton.{Automaton, moves_at, state_number}
-use Rattle.xd_auto.proofs.Members.{none_in, only_in}
+use Rattle.xd_auto.proofs.Members.{only_in}
 use Rattle.xd_auto.proofs.Closed.{same_state}
 use Rattle.xd_empty.specs.declared.uses.Use.{Use}
 use Rattle.xd_empty.specs.declared.uses.Use.TheVariants.{Element, Text}
@@ -131,8 +132,8 @@ pub record Listing (a : Automaton) (first i : ℕ) (uses : List (List Use)) (wai
 pub listing_starts : (a : Automaton) (first : ℕ) (uses : List (List Use)) (waiting : List Use) → uses ≡ replicate (length a) [] → waiting ≡ [] → Listing a first first uses waiting
 listing_starts a first uses waiting bare none = record {
   sized = ap length bare ∙ length-replicate (length a) [];
-  there = λ t u c. absurd (none_in u (subst (λ w. Contains w u) (ap (λ w. uses_at w t) bare ∙ get_or-replicate_same (length a) (state_number t) []) c));
-  waiting_there = λ u c. absurd (none_in u (subst (λ w. Contains w u) none c));
+  there = λ t u c. absurd (none_contained u (subst (λ w. Contains w u) (ap (λ w. uses_at w t) bare ∙ get_or-replicate_same (length a) (state_number t) []) c));
+  waiting_there = λ u c. absurd (none_contained u (subst (λ w. Contains w u) none c));
   listed = λ u is lt. absurd (omega (arith, is.1));
 }
 

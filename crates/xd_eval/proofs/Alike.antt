@@ -87,7 +87,7 @@ mutual
       (chosen_by M C n env d cs) (chosen_by N D n fnv d cs)
       (λ vs ws i. value_alike M N C D a c n (vs ++ env) (ws ++ fnv) (append_alike vs ws env fnv i h) e) (chosen_alike M N C D a c n env fnv h d cs)
 
-body_alike : (V W : Environment → Expression → Outcome Document) (o : Option FunctionDefinition) (ds : List Document) →
+pub body_alike : (V W : Environment → Expression → Outcome Document) (o : Option FunctionDefinition) (ds : List Document) →
     ((env : Environment) (e : Expression) → V env e ≡ W env e) → body_by V o ds ≡ body_by W o ds
 body_alike V W None ds h = refl
 body_alike V W (Some f) ds h = h (bound f.parameters ds) f.body

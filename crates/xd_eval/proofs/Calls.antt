@@ -1,11 +1,13 @@
 -- Calls stand within one another at most as deep as calls are left.
 use Rattle.std.proofs.Common.{◌≡◌, ℕ, suc, zero, ◌≤◌, arith, List, ◌∷◌, ◌++◌, Option, Some, None, refl, ap, sym, ◌∙◌}
 use Rattle.xd_doc.specs.Document.{Document, empty, element, join}
+use Rattle.xd_doc.proofs.Numbers.{itself}
 use Rattle.xd_syntax.specs.Placed.{unplaced}
 use Rattle.xd_syntax.specs.Expression.{Expression, Nothing, Quoted, Variable, Tagged, Joined, Called, Matched, Arguments, no_argument, argument, Clauses, no_clause, clause}
 use Rattle.xd_syntax.specs.Program.{FunctionDefinition, ProgramTree, function_of}
 use Rattle.xd_meaning.specs.Meaning.{Outcome, Done, Spent, Stuck, Environment, Matcher, looked_up, and_then, done_or_stuck, or_else, bound, value_by, values_by, chosen_by, body_by, call_within}
 use Rattle.xd_eval.specs.Waiting.{Caller}
+use Rattle.xd_eval.proofs.Alike.{body_alike}
 
 -- no more calls are left than these
 abbrev pub LeavesAtMost : {A : Type 0} → ℕ → Outcome A → Type 0
@@ -35,9 +37,6 @@ or_leaves : (n : ℕ) (o : Option Environment) (t : Environment → Outcome Docu
     LeavesAtMost n (or_else o t q)
 or_leaves n (Some vs) t q h i = h vs
 or_leaves n None t q h i = i
-
-itself : (n : ℕ) → n ≤ n
-itself n = omega arith
 
 mutual
   value_leaves : (M : Matcher) (C : Caller) → Uses C → (n : ℕ) (env : Environment) (e : Expression) → LeavesAtMost n (value_by M C n env e)
@@ -125,11 +124,6 @@ mutual
       or_agree (M (unplaced P) d) (λ vs. value_by M C n (vs ++ env) e) (λ vs. value_by M D n (vs ++ env) e) (chosen_by M C n env d cs) (chosen_by M D n env d cs)
       (λ vs. value_agrees M C D u most a n h (vs ++ env) e) (chosen_agrees M C D u most a n h env d cs)
 
-body_agrees : (V W : Environment → Expression → Outcome Document) (o : Option FunctionDefinition) (ds : List Document) →
-    ((env : Environment) (e : Expression) → V env e ≡ W env e) → body_by V o ds ≡ body_by W o ds
-body_agrees V W None ds h = refl
-body_agrees V W (Some f) ds h = h (bound f.parameters ds) f.body
-
 -- within any depth that the calls left can reach, a call is what it is within as many as are left
 module _ (M : Matcher) (P : ProgramTree) where
   deep_enough : (most k : ℕ) → k ≤ most → (n : ℕ) → n ≤ k → (f : List ℕ) (ds : List Document) → call_within M P k n f ds ≡ call_within M P n n f ds
@@ -140,7 +134,7 @@ module _ (M : Matcher) (P : ProgramTree) where
   deep_enough (suc most) zero h (suc n) i f ds = absurd (omega arith)
   deep_enough (suc most) (suc k) h zero i f ds = refl
   deep_enough (suc most) (suc k) h (suc n) i f ds =
-      body_agrees (value_by M (call_within M P k) n) (value_by M (call_within M P n) n) (function_of P.functions f) ds
+      body_alike (value_by M (call_within M P k) n) (value_by M (call_within M P n) n) (function_of P.functions f) ds
       (λ env e. value_agrees M (call_within M P k) (call_within M P n) (call_leaves M P k) n
       (λ m j g cs. deep_enough most k (omega arith) m (omega arith) g cs ∙ sym (deep_enough most n (omega arith) m j g cs)) n (omega arith) env e)
 
@@ -148,6 +142,6 @@ module _ (M : Matcher) (P : ProgramTree) where
   pub call_body : (n : ℕ) (f : List ℕ) (ds : List Document) →
       call_within M P (suc n) (suc n) f ds ≡ body_by (value_by M (λ k g cs. call_within M P k k g cs) n) (function_of P.functions f) ds
   call_body n f ds =
-      body_agrees (value_by M (call_within M P n) n) (value_by M (λ k g cs. call_within M P k k g cs) n) (function_of P.functions f) ds
+      body_alike (value_by M (call_within M P n) n) (value_by M (λ k g cs. call_within M P k k g cs) n) (function_of P.functions f) ds
       (λ env e. value_agrees M (call_within M P n) (λ k g cs. call_within M P k k g cs) (call_leaves M P n) n
       (λ m j g cs. deep_enough n n (omega arith) m j g cs) n (omega arith) env e)

@@ -1,5 +1,5 @@
 -- The clause that is chosen.
-use Rattle.std.proofs.Common.{◌≡◌, ℕ, zero, suc, ◌+◌, ◌<◌, ◌≤◌, arith, List, [], ◌∷◌, ◌++◌, drop, length, get_or, Option, Some, None, Vec, refl, ap, sym, subst, ◌∙◌}
+use Rattle.std.proofs.Common.{◌≡◌, ℕ, ◌+◌, ◌<◌, ◌≤◌, arith, List, [], ◌∷◌, ◌++◌, drop, length, get_or, Option, Some, None, Vec, ap, sym, subst, ◌∙◌}
 use Rattle.std.proofs.lemmas.List.{drop_more, map-append}
 use Rattle.xd_doc.specs.Document.{Document}
 use Rattle.xd_doc.specs.Stored.{document_at}
@@ -60,8 +60,3 @@ is_body p old new k bs s d cs st i c l e items m si inner h same less =
       stands = subst (ScopeStands new) (sym h) (all_append (λ (b : List ℕ × Seq). BelongsTo new b.1) items bs si (scope_kept old new k bs s));
       less = (let a = taken_steps p (environment_in old bs) d cs i c l e in omega arith);
     }
-
-pub same_at : {X : Type 0} (xs : List X) (i : ℕ) (d e : X) → i < length xs → get_or xs i d ≡ get_or xs i e
-same_at [] i d e l = absurd (omega arith)
-same_at (x ∷ xs) zero d e l = refl
-same_at (x ∷ xs) (suc i) d e l = same_at xs i d e (omega arith)

@@ -10,6 +10,7 @@ use Rattle.xd_doc.specs.StoredSeq.{BelongsTo}
 use Rattle.xd_doc.specs.StoreNodes.{Keeps, joined_at}
 use Rattle.xd_doc.specs.declared.store.Seq.{Seq}
 use Rattle.xd_doc.proofs.Lists.{all_append, all_at}
+use Rattle.xd_doc.proofs.Options.{some_same}
 use Rattle.xd_syntax.specs.ExpressionTable.{ExprRow, shape_at}
 use Rattle.xd_syntax.specs.FunctionRow.{FunctionRow}
 use Rattle.xd_syntax.specs.Table.{Row}
@@ -20,7 +21,6 @@ use Rattle.xd_syntax.specs.RecursionFaults.{IsSound}
 use Rattle.xd_syntax.proofs.Members.{map_mem}
 use Rattle.xd_pattern_runs.proofs.ClausesLaw.{clauses_are_linear}
 use Rattle.xd_meaning.specs.Meaning.{Environment, and_then, value_by, bound}
-use Rattle.xd_syntax.specs.Exprs.{expr_numbers}
 use Rattle.xd_syntax.specs.declared.exprs.ExprId.{ExprId}
 use Rattle.xd_syntax.specs.declared.program.Param.{Param}
 use Rattle.xd_eval.specs.Waiting.{Waiting, in_sequence, in_call, joined_all, resumed, steps, waiting_steps, all_steps}
@@ -185,16 +185,13 @@ body_steps (g ∷ fs) w f e = go (bytes_eq g.name w) e (body_steps fs w f)
 pub part_below : (p : ProgramTable) (is : List ℕ) (k i : ℕ) → AllByRecursion (IsRunnable p) is → k < length is → i ≡ get_or is k i → IsRunnable p i
 part_below p is k i b l e = subst (IsRunnable p) (sym e) (all_at (IsRunnable p) is b k i l)
 
-same_some : {A : Type 0} (x y : A) → Some x ≡ Some y → x ≡ y
-same_some x y h = cc
-
 -- a function's body is runnable
 row_there : (fs : List FunctionRow) (w : List ℕ) (f : FunctionRow) → row_of fs w ≡ Some f → Among f fs
 row_there [] w f e = absurd (cc)
 row_there (g ∷ fs) w f e = go (bytes_eq g.name w) e (row_there fs w f)
   where
     go : (b : Bool) → cond b (Some g) (row_of fs w) ≡ Some f → (row_of fs w ≡ Some f → Among f fs) → Among f (g ∷ fs)
-    go true k r = inl (same_some g f k)
+    go true k r = inl (some_same g f k)
     go false k r = inr (r k)
 
 body_there : (types : List Row) (exprs : List ExprRow) (fs : List FunctionRow) (f : FunctionRow) → AllByRecursion (FunctionStands types exprs) fs → Among f fs → f.body.at < length exprs
@@ -210,10 +207,6 @@ body_below p w f stands sound e =
       linear = λ A a. clauses_are_linear (program_tree p) sound.names (function_definition p f) (map_mem (function_definition p) f p.functions m) A a;
     }
 
-pub count_numbers : (ids : List ExprId) → length (expr_numbers ids) ≡ length ids
-count_numbers [] = refl
-count_numbers (i ∷ ids) = ap suc (count_numbers ids)
-
 pub stands_of : (p : ProgramTable) (o : Option FunctionRow) (f : FunctionRow) → o ≡ Some f → IfSome o (λ (g : FunctionRow). IsRunnable p g.body.at) → IsRunnable p f.body.at
-stands_of p (Some g) f e h = subst (λ (x : FunctionRow). IsRunnable p x.body.at) (same_some g f e) h
+stands_of p (Some g) f e h = subst (λ (x : FunctionRow). IsRunnable p x.body.at) (some_same g f e) h
 stands_of p None f e h = absurd (cc)

@@ -75,7 +75,3 @@ module _ (old new : List Document) (k : Keeps old new) where
 pub waiting_more : (p : ProgramTable) (ds : List Document) (fs : List Frame) (f : Frame) → all_waiting p ds (fs ++ f ∷ []) ≡ waiting_of p ds f ∷ all_waiting p ds fs
 waiting_more p ds fs f =
     ap reverse (map-append (waiting_of p ds) fs (f ∷ [])) ∙ reverse-append (map (waiting_of p ds) fs) (waiting_of p ds f ∷ [])
-
-pub keeps_then : (a b c : List Document) → Keeps a b → Keeps b c → Keeps a c
-keeps_then a b c h k =
-    record { belongs = λ seq m. k.belongs seq (h.belongs seq m); same = λ seq m. k.same seq (h.belongs seq m) ∙ h.same seq m }

@@ -1,10 +1,11 @@
 -- States of an alike set give each variable nothing, or all that they take.
 use Rattle.std.proofs.Common.{◌≡◌, Bool, true, false, sym, ap, ◌∙◌, ◌&&◌, ◌+◌, ◌<◌, ◌≤◌, zero, suc, List, [], ◌∷◌, get_or, length, ⊎_elim, Some, refl, ℕ, ◌≢◌, set, subst, arith}
 use Rattle.std.specs.List.{slice_get}
-use Rattle.std.proofs.lemmas.Bool.{cases_eq}
+use Rattle.std.proofs.lemmas.Bool.{cases_eq, and_from}
 use Rattle.std.proofs.lemmas.List.{get_or-set_other}
 use Rattle.std.proofs.Math.ListN.{get_or-eq_default}
 use Rattle.std.proofs.lemmas.Bool.{cases_lt}
+use Rattle.xd_doc.proofs.Bools.{and_left, and_right}
 use Rattle.xd_auto.proofs.Closed.{same_state}
 use Rattle.xd_empty.specs.Parts.{is_marked}
 use Rattle.xd_doc.specs.Document.{Document, empty, text, element}
@@ -16,7 +17,6 @@ use Rattle.xd_auto.specs.Automaton.{Automaton, moves_at}
 use Rattle.xd_auto.specs.Runs.{Run, ends, takes_text, takes_element, IsAcceptingRun}
 use Rattle.xd_auto.proofs.Anys.{IsSomeAnd-parts}
 use Rattle.xd_auto_pairs.specs.Traces.{Owned, trace_of, content_or, rest_or, text_rest_or, IsFree}
-use Rattle.xd_auto.proofs.Anys.{and_both, and_left, and_right}
 use Rattle.xd_given.specs.Alike.{IsAlike, IsAlikeFor, IsAlikeSet, IsIn, alike_label, alike_text, begins, marked_count, is_side}
 use Rattle.xd_given.specs.Owning.{GivesAlike, IsWhole, owns_first}
 
@@ -109,7 +109,7 @@ module _ (a : Automaton) (b : Owned) (set : State → Bool) (alike : (s : State)
 -- a larger set has no fewer such states
 begins_more : (b : Owned) (one two : State → Bool) (first : Bool) (s : State) → IsIn one two → begins b one first s ≡ true → begins b two first s ≡ true
 begins_more b one two first s more e =
-    and_both (two s) (is_side first (owns_first b s)) (more s (and_left (one s) (is_side first (owns_first b s)) e)) (and_right (one s) (is_side first (owns_first b s)) e)
+    and_from (two s) (is_side first (owns_first b s)) (more s (and_left (one s) (is_side first (owns_first b s)) e)) (and_right (one s) (is_side first (owns_first b s)) e)
 
 pub alike_more : (a : Automaton) (owned : ℕ → Owned) (count : ℕ) (one two : State → Bool) (s : State) → IsIn one two → IsAlikeFor a owned count one s → IsAlikeFor a owned count two s
 alike_more a owned count one two s more h x lt = record {
@@ -118,14 +118,14 @@ alike_more a owned count one two s more h x lt = record {
       let first = owns_first b s in
       let is = (h x lt).labels n m e in
       let both = and_right (is_side first (b.element s n)) (begins b one false m.content && begins b one first m.rest) is in
-      and_both (is_side first (b.element s n)) (begins b two false m.content && begins b two first m.rest) (and_left (is_side first (b.element s n)) _ is)
-      (and_both (begins b two false m.content) (begins b two first m.rest) (begins_more b one two false m.content more (and_left (begins b one false m.content) _ both))
+      and_from (is_side first (b.element s n)) (begins b two false m.content && begins b two first m.rest) (and_left (is_side first (b.element s n)) _ is)
+      (and_from (begins b two false m.content) (begins b two first m.rest) (begins_more b one two false m.content more (and_left (begins b one false m.content) _ both))
       (begins_more b one two first m.rest more (and_right (begins b one false m.content) _ both)));
   texts = λ n m e.
       let b = owned x in
       let first = owns_first b s in
       let is = (h x lt).texts n m e in
-      and_both (is_side first (b.text s n)) (begins b two first m.rest) (and_left (is_side first (b.text s n)) _ is)
+      and_from (is_side first (b.text s n)) (begins b two first m.rest) (and_left (is_side first (b.text s n)) _ is)
       (begins_more b one two first m.rest more (and_right (is_side first (b.text s n)) _ is));
 }
 

@@ -1,13 +1,18 @@
 -- The states of a variable's blocks accept exactly what runs through points give it.
 use Rattle.std.proofs.Common.{ℕ, ◌<◌, ◌≡◌, inl, inr, Bool, true, false, ◌&&◌, cond, List, Some, refl, sym, ap, ◌∙◌, subst}
 use Rattle.std.specs.List.{list_any, slice_get}
+use Rattle.std.proofs.lemmas.Bool.{and_from}
+use Rattle.std.proofs.lemmas.Map.Keys.{any_passes_from_place}
 use Rattle.xd_doc.specs.Document.{Document, empty, text, element, join, has_item, is_proper}
 use Rattle.xd_doc.specs.Classes.{class_has}
+use Rattle.xd_doc.proofs.Bools.{and_left, and_right}
+use Rattle.xd_doc.proofs.Joins.{join_empty-right}
+use Rattle.xd_doc.proofs.StoredLemmas.{is_empty}
 use Rattle.xd_auto.specs.declared.auto.State.{State}
 use Rattle.xd_auto.specs.declared.auto.LabelMove.{LabelMove}
 use Rattle.xd_auto.specs.declared.auto.TextMove.{TextMove}
 use Rattle.xd_auto.specs.Automaton.{Automaton, StateMoves, accepts, moves_at, takes_element, takes_word}
-use Rattle.xd_auto.proofs.Anys.{and_both, and_left, and_right, any_at, found}
+use Rattle.xd_auto.proofs.Anys.{found}
 use Rattle.xd_auto_pairs.specs.Traces.{KeepsTogether, Owned, Trace, at_end, at_text, at_element, trace_of, held, IsFree, IsBlock, IsTogether}
 use Rattle.xd_points.specs.declared.patterns.PatternStates.{PatternStates}
 use Rattle.xd_points.specs.declared.table.PointTable.{PointTable}
@@ -17,7 +22,7 @@ use Rattle.xd_given.specs.Blocks.{AreBlocks, is_tail, there, onward}
 use Rattle.xd_given.specs.Outline.{IsDrawing, IsOutline}
 use Rattle.xd_given.specs.Owning.{LeavesOutAlike, owns_first, point_moves}
 use Rattle.xd_given.specs.Traced.{AcceptsGivenAt, AtLeft, FreeFrom, HasRunAt, IsGivenAt, Traced}
-use Rattle.xd_given.proofs.TraceLemmas.{Fits, fits, front, front_free, front_held, front_whole, whole_block, whole_held, block_free, held_free, join_empty}
+use Rattle.xd_given.proofs.TraceLemmas.{Fits, fits, front, front_free, front_held, front_whole, whole_block, whole_held, block_free, held_free}
 use Rattle.xd_given.proofs.PointTraces.{accepting, content_within, rest_within, run_of, run_on, text_within, traced, traced_means}
 use Rattle.xd_given.proofs.FreeLaw.{finishes, free_run, label_drawn, left_means, on_left, run_free, run_whole, text_drawn, true_false}
 use Rattle.xd_bind.specs.Ahead.{IsAhead, is_start, past_text, past_element, in_content}
@@ -41,11 +46,6 @@ begins_block (element l c d) at_end k some = tt
 begins_block (element l c d) (at_text own r) k some = absurd (cc)
 begins_block (element l c d) (at_element own i r) (inl k) some = inl k
 begins_block (element l c d) (at_element own i r) (inr k) some = absurd (let none : has_item (cond own (element l c (front d r)) empty) ≡ false = rw k.0 refl in cc)
-
-no_item : (e : Document) → has_item e ≡ false → e ≡ empty
-no_item empty n = refl
-no_item (text c x) n = absurd (cc)
-no_item (element l c x) n = absurd (cc)
 
 -- what stands after, or in, an item that doesn't belong to the variable
 text_back : (r : Trace) → IsTogether (at_text false r) → IsTogether r
@@ -106,7 +106,7 @@ module _ (a : Automaton) (p : PatternStates) (t : PointTable) (b : Owned) (is : 
         document = up.document;
         trace = up.trace;
         traced = up.traced;
-        proper = λ e. up.proper (and_both _ (is_proper d) c.proper e);
+        proper = λ e. up.proper (and_from _ (is_proper d) c.proper e);
         same = up.same;
         back = λ some k. text_back r (up.back (λ f. some f.1) k);
       }
@@ -120,7 +120,7 @@ module _ (a : Automaton) (p : PatternStates) (t : PointTable) (b : Owned) (is : 
         document = up.document;
         trace = up.trace;
         traced = up.traced;
-        proper = λ e. up.proper (and_both _ (is_proper c.document && is_proper d) l.proper (and_both (is_proper c.document) (is_proper d) c.proper e));
+        proper = λ e. up.proper (and_from _ (is_proper c.document && is_proper d) l.proper (and_from (is_proper c.document) (is_proper d) c.proper e));
         same = up.same ∙ ap (λ x. join x (held d r)) (held_free c.document c.trace c.free);
         back = λ some k. rest_back c.trace r some (up.back (λ f. some f.2) k);
       }
@@ -134,8 +134,8 @@ module _ (a : Automaton) (p : PatternStates) (t : PointTable) (b : Owned) (is : 
         document = up.document;
         trace = up.trace;
         traced = up.traced;
-        proper = λ e. up.proper (and_both _ (is_proper d && is_proper c.document) l.proper (and_both (is_proper d) (is_proper c.document) e c.proper));
-        same = up.same ∙ ap (λ x. join (held d r) x) (held_free c.document c.trace c.free) ∙ join_empty (held d r);
+        proper = λ e. up.proper (and_from _ (is_proper d && is_proper c.document) l.proper (and_from (is_proper d) (is_proper c.document) e c.proper));
+        same = up.same ∙ ap (λ x. join (held d r) x) (held_free c.document c.trace c.free) ∙ join_empty-right (held d r);
         back = λ some k. content_back r c.trace some (up.back (λ f. some f.1) k);
       }
 
@@ -193,7 +193,7 @@ module _ (a : Automaton) (p : PatternStates) (t : PointTable) (b : Owned) (is : 
   block_of (element l c d) s (at_element own i r) q (inr (yet, h)) (inr (e, inr (k, f))) =
       let drawn = label_there s h.number h.step (ahead_within s q) yet h.there in
       let other = is_free_at d h.step.rest r (rest_within a p t b is s h.number h.step (ahead_within s q) yet h.there) h.rest f in
-      block_as (held c i) _ (rw (e, held_free d r f) (sym (join_empty (held c i))))
+      block_as (held c i) _ (rw (e, held_free d r f) (sym (join_empty-right (held c i))))
       (block_of c h.step.content i (in_content s h.step h.number q drawn (h.owned ∙ e) other) h.content k)
 
   module _ (places blocks : List State) (base : ℕ) (new : Automaton) (means : (s : State) (d : Document) → s.number < point_count t → accepts new d (there places s) ≡ point_means a p t s d)
@@ -225,7 +225,7 @@ module _ (a : Automaton) (p : PatternStates) (t : PointTable) (b : Owned) (is : 
           traced = traced a p t b is e s r.0 lt r.1;
           proper = λ q. q;
           gives = front_whole e r.0 fit whole;
-          free = λ none. fits_empty r.0 (subst (λ (x : Document). Fits x r.0) (no_item e none) fit);
+          free = λ none. fits_empty r.0 (subst (λ (x : Document). Fits x r.0) (is_empty e none) fit);
         }
 
     front_from : (e : Document) (s : State) → s.number < point_count t → accepts new e (there blocks s) ≡ true → FrontFrom s e
@@ -249,7 +249,7 @@ module _ (a : Automaton) (p : PatternStates) (t : PointTable) (b : Owned) (is : 
               document = text c f.document;
               trace = at_text true f.trace;
               traced = inr (here.0, record { number = one.number; step = one.item; there = here.1; has = and_left (class_has one.item.words c) _ one.passes; owned = one.picked; rest = f.traced });
-              proper = λ q. and_both _ (is_proper f.document) (and_left _ (is_proper e) q) (f.proper (and_right _ (is_proper e) q));
+              proper = λ q. and_from _ (is_proper f.document) (and_left _ (is_proper e) q) (f.proper (and_right _ (is_proper e) q));
               gives = ap (text c) f.gives;
               free = λ none. absurd (cc);
             }
@@ -283,8 +283,8 @@ module _ (a : Automaton) (p : PatternStates) (t : PointTable) (b : Owned) (is : 
               );
               proper = λ q.
                   let parts = and_right _ (is_proper c && is_proper e) q in
-                  and_both _ (is_proper c && is_proper f.document) (and_left _ (is_proper c && is_proper e) q)
-                  (and_both (is_proper c) (is_proper f.document) (and_left (is_proper c) _ parts) (f.proper (and_right (is_proper c) _ parts)));
+                  and_from _ (is_proper c && is_proper f.document) (and_left _ (is_proper c && is_proper e) q)
+                  (and_from (is_proper c) (is_proper f.document) (and_left (is_proper c) _ parts) (f.proper (and_right (is_proper c) _ parts)));
               gives = ap (element l c) f.gives;
               free = λ none. absurd (cc);
             }
@@ -311,7 +311,7 @@ module _ (a : Automaton) (p : PatternStates) (t : PointTable) (b : Owned) (is : 
             let not_free : IsFree f.trace → ⊥ = λ free. true_false (has_item (front f.document f.trace)) begun (ap has_item (front_free f.document f.trace free)) in
             let together : IsTogether up.trace = subst IsTogether run.is (keeps up.document run.run (accepting a p t b up.document start up.trace run)) in
             with_gives (front_held f.document f.trace (begins_block f.document f.trace (up.back not_free together) begun) ∙ f.gives)
-        go false none = with_gives (held_free f.document f.trace (f.free none) ∙ sym (no_item e none))
+        go false none = with_gives (held_free f.document f.trace (f.free none) ∙ sym (is_empty e none))
 
     tail_accepts : (d : Document) (s : State) (r : Trace) → s.number < point_count t → Traced a p t b d s r → is_tail p t b s ≡ true → accepts new (held d r) (there blocks s) ≡ true
     tail_accepts d s r lt h tail =
@@ -339,7 +339,7 @@ module _ (a : Automaton) (p : PatternStates) (t : PointTable) (b : Owned) (is : 
     left_stops d s r lt at h = go (owns_first b (pattern_of t s)) refl
       where
         go : (v : Bool) → owns_first b (pattern_of t s) ≡ v → accepts new (held d r) (there blocks s) ≡ true
-        go true first = tail_accepts d s r lt h (and_both (is_left p t s) (owns_first b (pattern_of t s)) at.left first)
+        go true first = tail_accepts d s r lt h (and_from (is_left p t s) (owns_first b (pattern_of t s)) at.left first)
         go false first = stops d s r lt h (run_free a p t b is serve alike d s r at.left first at.has)
 
     accepts_block : (d : Document) (s : State) (r : Trace) → s.number < point_count t → Traced a p t b d s r → IsBlock r → accepts new (held d r) (there blocks s) ≡ true
@@ -353,7 +353,7 @@ module _ (a : Automaton) (p : PatternStates) (t : PointTable) (b : Owned) (is : 
         by_tail (text c d) s (at_text true r) lt (inr (yet, h)) (λ other.
         ap (λ (m : StateMoves). list_any (takes_word new c (held d r)) m.texts) (moves_there s lt other)
         ∙ any_choice (text_onto (there blocks)) (takes_word new c (held d r)) ((point_moves t b).text s) (moves_at drawing s).texts h.number h.step (text_there s h.number h.step lt yet h.there) h.owned
-        (and_both (class_has h.step.words c) _ h.has more))
+        (and_from (class_has h.step.words c) _ h.has more))
     accepts_block (text c d) s (at_text false r) lt (inr (yet, h)) (inl (e, k)) = absurd (let no : false ≡ true = e in cc)
     accepts_block (text c d) s (at_text own r) lt (inr (yet, h)) (inr f) = stops (text c d) s (at_text own r) lt (inr (yet, h)) f
     accepts_block (text c d) s (at_element own i r) lt h k = absurd h
@@ -369,7 +369,7 @@ module _ (a : Automaton) (p : PatternStates) (t : PointTable) (b : Owned) (is : 
         ∙ ap (λ (m : StateMoves). list_any (takes_element new l c (held d r)) m.labels) (moves_there s lt other)
         ∙ any_choice (label_onto (there places) (there blocks)) (takes_element new l c (held d r)) ((point_moves t b).element s) (moves_at drawing s).labels h.number h.step
         (label_there s h.number h.step lt yet h.there) h.owned
-        (and_both (class_has h.step.class l) _ h.has (and_both (accepts new c (there places h.step.content)) _ inside more)))
+        (and_from (class_has h.step.class l) _ h.has (and_from (accepts new c (there places h.step.content)) _ inside more)))
     accepts_block (element l c d) s (at_element false i r) lt (inr (yet, h)) (inl (e, f, k)) = absurd (let no : false ≡ true = e in cc)
     accepts_block (element l c d) s (at_element own i r) lt (inr (yet, h)) (inr f) = stops (element l c d) s (at_element own i r) lt (inr (yet, h)) f
 
@@ -401,5 +401,5 @@ module _ (a : Automaton) (p : PatternStates) (t : PointTable) (b : Owned) (is : 
           given_ahead keeps e f.item (w.searched.lists.sound f.item f.place f.there) f.passes,
       λ g.
           let f = found_ahead keeps e g in
-          united e ∙ any_at (λ s. accepts new e (there blocks s)) order f.place f.state f.there_is f.accepted,
+          united e ∙ any_passes_from_place (λ s. accepts new e (there blocks s)) order f.place f.state f.there_is f.accepted,
     )

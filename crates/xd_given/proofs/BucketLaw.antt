@@ -4,19 +4,13 @@ use Rattle.std.specs.HashMap.{HashMap}
 use Rattle.std.specs.List.{slice_get}
 use Rattle.std.proofs.lemmas.List.{take_more}
 use Rattle.std.proofs.lemmas.List.Folds.{list_any-append}
+use Rattle.xd_doc.proofs.SortedNames.{or_false}
+use Rattle.xd_doc.proofs.Bools.{and_false}
 use Rattle.xd_auto.specs.declared.auto.State.{State}
 use Rattle.xd_auto_pairs.specs.declared.kind.MoveKind.{MoveKind}
 use Rattle.xd_bind.specs.declared.tracks.Track.{Track}
 use Rattle.xd_given.specs.Buckets.{bucket_at, tracks_in}
 use Rattle.xd_bind.specs.Projection.{has_track, is_kind, is_track}
-
-or_false : (a : Bool) → (a || false) ≡ a
-or_false true = refl
-or_false false = refl
-
-and_false : (a : Bool) → (a && false) ≡ false
-and_false true = refl
-and_false false = refl
 
 -- one more mark
 pub has_more : (ts : List Track) (t : Track) (x : ℕ) (kind : MoveKind) (s : State) (n : ℕ) → has_track (ts ++ t ∷ []) x kind s n ≡ (has_track ts x kind s n || is_track x kind s n t)

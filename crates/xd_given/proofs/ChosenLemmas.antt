@@ -3,14 +3,11 @@ use Rattle.std.proofs.Common.{◌≡◌, ℕ, zero, suc, ◌+◌, ◌<◌, Bool,
 use Rattle.std.specs.List.{All, list_any, slice_get}
 use Rattle.std.proofs.lemmas.List.Elements.{All-cons, All-head, All-tail}
 use Rattle.xd_doc.specs.Classes.{LabelClass, TextClass}
+use Rattle.xd_doc.proofs.Lists.{append_none}
 use Rattle.xd_auto.specs.declared.auto.State.{State}
 use Rattle.xd_auto.specs.declared.auto.LabelMove.{LabelMove}
 use Rattle.xd_auto.specs.declared.auto.TextMove.{TextMove}
 use Rattle.xd_given.specs.Chosen.{chosen, label_onto, text_onto}
-
-append_none : {X : Type 0} (xs : List X) → xs ++ [] ≡ xs
-append_none [] = refl
-append_none (x ∷ xs) = ap (λ ys. x ∷ ys) (append_none xs)
 
 with_first : {X Y : Type 0} (f : X → Y) (v : Bool) (y : X) (ws bs : List X) (cs : List Y) → map f ws ≡ map f bs ++ cs → map f (cond v (y ∷ ws) ws) ≡ map f (cond v (y ∷ bs) bs) ++ cs
 with_first f true y ws bs cs e = ap (λ ys. f y ∷ ys) e

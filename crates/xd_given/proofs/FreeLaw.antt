@@ -2,13 +2,14 @@
 use Rattle.std.proofs.Common.{ℕ, ◌<◌, ◌≡◌, inl, inr, Bool, true, false, not, ◌&&◌, ◌||◌, cond, List, length, Option, Some, None, refl, sym, ap, ◌∙◌, subst, arith}
 use Rattle.std.specs.List.{slice_get}
 use Rattle.std.specs.Option.{is_some}
+use Rattle.std.proofs.lemmas.Bool.{and_from}
 use Rattle.xd_doc.specs.Document.{Document, empty, text, element, is_proper}
 use Rattle.xd_doc.specs.Stored.{document_at}
+use Rattle.xd_doc.proofs.Bools.{and_left, and_right}
 use Rattle.xd_auto.specs.declared.auto.State.{State}
 use Rattle.xd_auto.specs.declared.auto.LabelMove.{LabelMove}
 use Rattle.xd_auto.specs.declared.auto.TextMove.{TextMove}
 use Rattle.xd_auto.specs.Automaton.{Automaton, IsState, StateMoves, accepts, moves_at}
-use Rattle.xd_auto.proofs.Anys.{and_both, and_left, and_right}
 use Rattle.xd_auto_pairs.specs.Traces.{Owned, Trace, at_end, at_text, at_element, trace_of, IsFree}
 use Rattle.xd_least.specs.Least.{Knows, known_of}
 use Rattle.xd_least.specs.declared.document.LeastDocument.{LeastDocument}
@@ -137,7 +138,7 @@ module _ (a : Automaton) (p : PatternStates) (t : PointTable) (b : Owned) (is : 
       record {
         document = text some.name more.document;
         trace = at_text false more.trace;
-        proper = and_both _ (is_proper more.document) some.proper more.proper;
+        proper = and_from _ (is_proper more.document) some.proper more.proper;
         traced = inr (here.0, record { number = n; step = m; there = here.1; has = some.has; owned = own; rest = more.traced });
         free = (refl, more.free);
       }
@@ -148,7 +149,7 @@ module _ (a : Automaton) (p : PatternStates) (t : PointTable) (b : Owned) (is : 
       record {
         document = element some.name inside.document more.document;
         trace = at_element false inside.trace more.trace;
-        proper = and_both _ (is_proper inside.document && is_proper more.document) some.proper (and_both (is_proper inside.document) (is_proper more.document) inside.proper more.proper);
+        proper = and_from _ (is_proper inside.document && is_proper more.document) some.proper (and_from (is_proper inside.document) (is_proper more.document) inside.proper more.proper);
         traced = inr (here.0, record { number = n; step = m; there = here.1; has = some.has; owned = own; content = inside.traced; rest = more.traced });
         free = (refl, inside.free, more.free);
       }
@@ -163,7 +164,7 @@ module _ (a : Automaton) (p : PatternStates) (t : PointTable) (b : Owned) (is : 
       where
         decide : (v : Bool) → set s ≡ v → set s ≡ true
         decide true e = e
-        decide false e = true_false (text_goes (point_moves t b) set s n m) (and_both (set m.rest) (not ((point_moves t b).text s n)) rest (ap not own)) ((are.settled s (point_there s lt) e).texts n m there)
+        decide false e = true_false (text_goes (point_moves t b) set s n m) (and_from (set m.rest) (not ((point_moves t b).text s n)) rest (ap not own)) ((are.settled s (point_there s lt) e).texts n m there)
 
     label_back : (s : State) (n : ℕ) (m : LabelMove) → s.number < point_count t → slice_get (moves_at drawing s).labels n ≡ Some m → (point_moves t b).element s n ≡ false → set m.content ≡ true → set m.rest ≡ true → set s ≡ true
     label_back s n m lt there own content rest = decide (set s) refl
@@ -171,8 +172,8 @@ module _ (a : Automaton) (p : PatternStates) (t : PointTable) (b : Owned) (is : 
         decide : (v : Bool) → set s ≡ v → set s ≡ true
         decide true e = e
         decide false e =
-            let behind = and_both (set m.rest) (not ((point_moves t b).element s n)) rest (ap not own) in
-            true_false (label_goes (point_moves t b) set s n m) (and_both (set m.content) (set m.rest && not ((point_moves t b).element s n)) content behind) ((are.settled s (point_there s lt) e).labels n m there)
+            let behind = and_from (set m.rest) (not ((point_moves t b).element s n)) rest (ap not own) in
+            true_false (label_goes (point_moves t b) set s n m) (and_from (set m.content) (set m.rest && not ((point_moves t b).element s n)) content behind) ((are.settled s (point_there s lt) e).labels n m there)
 
     stops : (s : State) (v : Bool) → s.number < point_count t → is_left p t s ≡ v → cond v (leaf s) (moves_at drawing s).last ≡ true → set s ≡ true
     stops s v lt left e = are.stop s (point_there s lt) (ap (λ w. cond w (leaf s) (moves_at drawing s).last) left ∙ e)

@@ -2,9 +2,9 @@
 use Rattle.std.proofs.Common.{◌≡◌, ◌≢◌, ◌∙◌, ⊎_elim, ℕ, ◌+◌, ◌-◌, ◌<◌, Bool, true, false, not, ◌&&◌, List, [], ◌∷◌, ◌++◌, length, get_or, set, get_or-set_same, get_or-set_other, refl, sym, ap, subst, arith}
 use Rattle.std.proofs.lemmas.Bool.{cases_eq, not-true}
 use Rattle.std.proofs.lemmas.List.{get_or_append_left, get_or-append_right}
+use Rattle.xd_doc.proofs.Bools.{and_left, and_right}
 use Rattle.xd_auto.specs.declared.auto.State.{State}
 use Rattle.xd_auto.specs.Automaton.{Automaton, IsState}
-use Rattle.xd_auto.proofs.Anys.{and_left, and_right}
 use Rattle.xd_auto.proofs.Closed.{same_state}
 use Rattle.xd_auto_pairs.specs.Traces.{Owned}
 use Rattle.xd_empty.specs.Parts.{is_marked}

@@ -1,12 +1,12 @@
 -- What one variable is given, from the parts that are made for it.
-use Rattle.std.proofs.Common.{ℕ, IfSome, ◌+◌, ◌<◌, ◌≤◌, ◌≡◌, Bool, true, false, ◌||◌, List, [], ◌∷◌, ◌++◌, Option, Some, None, length, get_or, map, refl, sym, ap, ◌∙◌, subst, arith}
+use Rattle.std.proofs.Common.{ℕ, IfSome, ◌+◌, ◌<◌, ◌≤◌, ◌≡◌, Bool, true, false, ◌||◌, List, [], ◌∷◌, Option, Some, None, length, get_or, map, refl, sym, ap, ◌∙◌, subst, arith}
 use Rattle.std.specs.List.{All, list_any}
-use Rattle.std.proofs.lemmas.List.{get_or_at, get_or_default}
+use Rattle.std.proofs.lemmas.List.{get_or_default}
 use Rattle.std.proofs.lemmas.List.Elements.{All-map}
-use Rattle.xd_doc.specs.Document.{Document, empty, text, element}
+use Rattle.xd_doc.specs.Document.{Document}
 use Rattle.xd_doc.specs.Stored.{document_at}
 use Rattle.xd_auto.specs.declared.auto.State.{State}
-use Rattle.xd_auto.specs.Automaton.{Automaton, Extends, IsClosed, IsState, LeadsBelow, StateMoves, accepts, moves_at, no_moves, takes_element, takes_word}
+use Rattle.xd_auto.specs.Automaton.{Automaton, Extends, IsClosed, IsState, LeadsBelow, accepts, moves_at}
 use Rattle.xd_auto.proofs.Closed.{moves_at-closed}
 use Rattle.xd_auto.proofs.ExtendsLemmas.{keeps}
 use Rattle.xd_auto_pairs.specs.Traces.{KeepsTogether, Owned}
@@ -97,18 +97,6 @@ given_here a mid new p t b known start drawing free ahead places blocks states f
     (λ s d lt. keeps a mid closed more d (left_of t s) (left_state a p t s is lt))
     are filled together new first
     (λ d. united d ∙ ap (λ (ss : List State). list_any (accepts mid d) ss) states_are ∙ any_of_map (there blocks) (accepts mid d) ahead)
-
--- a state that was added without moves accepts nothing
-pub nothing_accepted : (old new : Automaton) (s : State) → s.number ≡ length old → new ≡ old ++ no_moves false ∷ [] → (d : Document) → accepts new d s ≡ false
-nothing_accepted old new s number is = none
-  where
-    bare : moves_at new s ≡ no_moves false
-    bare = rw is (get_or_at old (no_moves false) [] (no_moves false) s.number (sym number))
-
-    none : (d : Document) → accepts new d s ≡ false
-    none empty = ap (λ (m : StateMoves). m.last) bare
-    none (text t d) = ap (λ (m : StateMoves). list_any (takes_word new t d) m.texts) bare
-    none (element l c d) = ap (λ (m : StateMoves). list_any (takes_element new l c d) m.labels) bare
 
 -- the blocks' states of points ahead belong to the automaton
 pub states_belong : (a : Automaton) (ahead blocks states : List State) → states ≡ map (there blocks) ahead → All (λ s. s.number < length blocks) ahead → All (IsState a) blocks → All (IsState a) states

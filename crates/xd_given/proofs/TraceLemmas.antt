@@ -1,7 +1,7 @@
 -- Traces that are free, whole or blocks, and what they hold.
-use Rattle.std.proofs.Common.{◌≡◌, inl, inr, true, false, cond, refl, sym, ap, ◌∙◌}
+use Rattle.std.proofs.Common.{◌≡◌, inl, inr, true, false, cond, refl, sym, ◌∙◌}
 use Rattle.std.specs.List.{slice_get}
-use Rattle.xd_doc.specs.Document.{Document, empty, text, element, join}
+use Rattle.xd_doc.specs.Document.{Document, empty, text, element}
 use Rattle.xd_doc.specs.Classes.{class_has}
 use Rattle.xd_auto.specs.declared.auto.State.{State}
 use Rattle.xd_auto.specs.declared.auto.LabelMove.{LabelMove}
@@ -27,11 +27,6 @@ pub block_free : (t : Trace) → IsFree t → IsBlock t
 block_free at_end h = tt
 block_free (at_text own r) h = inr h
 block_free (at_element own k r) h = inr h
-
-pub join_empty : (d : Document) → join d empty ≡ d
-join_empty empty = refl
-join_empty (text t d) = ap (text t) (join_empty d)
-join_empty (element l c d) = ap (element l c) (join_empty d)
 
 -- the trace is one of the document
 abbrev pub Fits : Document → Trace → Type 0

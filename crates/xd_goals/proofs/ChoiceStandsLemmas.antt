@@ -6,6 +6,7 @@ use Rattle.std.proofs.lemmas.Bool.{cases_lt, cases_eq}
 use Rattle.std.proofs.lemmas.Option.{slice_get_past}
 use Rattle.xd_doc.specs.Document.{Document}
 use Rattle.xd_doc.specs.declared.store.Seq.{Seq}
+use Rattle.xd_doc.proofs.Lists.{all_more}
 use Rattle.xd_auto.specs.declared.auto.State.{State}
 use Rattle.xd_auto.specs.Automaton.{Automaton}
 use Rattle.xd_rules.specs.Rules.{Claim, ChoiceTree, ContentLeaf, RestLeaf, SplitOn, AllLeaves}
@@ -20,7 +21,7 @@ use Rattle.xd_goals.specs.declared.table.GoalCase.{GoalCase}
 use Rattle.xd_goals.specs.declared.table.Link.{Link}
 use Rattle.xd_goals.specs.declared.table.Standing.{Standing}
 use Rattle.xd_goals.specs.declared.table.Standing.TheVariants.{Holds, Refuted, Waiting}
-use Rattle.xd_rules.proofs.Lists.{all_at, all_map, all_places}
+use Rattle.xd_rules.proofs.Lists.{all_at, all_places}
 use Rattle.xd_goals.proofs.GrowsByLemmas.{claim_at-is}
 use Rattle.xd_goals.proofs.Trees.{AllLeaves-map, StandsAt-one}
 use Rattle.xd_goals.proofs.Claims.{same_kinds}
@@ -101,7 +102,7 @@ module _ (a : Automaton) (old new : List GoalRow) (nodes : List ChoiceNode) (lin
   -- choices that lead to settled goals alone do so still, where marks stay
   pub leads_same : ((g : ℕ) → (row_at old g).settled ≡ true → (row_at new g).settled ≡ true) → (ks : List Choice) → AllByRecursion (LeadsToSettled before) ks → AllByRecursion (LeadsToSettled after) ks
   leads_same keep ks h =
-      all_map (LeadsToSettled before) (LeadsToSettled after) ks (λ k x tree is. AllLeaves-map (λ g. (row_at old g).settled ≡ true) (λ g. (row_at new g).settled ≡ true) keep tree (x tree is)) h
+      all_more (LeadsToSettled before) (LeadsToSettled after) ks (λ k x tree is. AllLeaves-map (λ g. (row_at old g).settled ≡ true) (λ g. (row_at new g).settled ≡ true) keep tree (x tree is)) h
 
   -- trees whose leaves are neither refuted before nor the goal that is refuted now
   pub open_same : (owner : GoalCase) (c : Claim State) (k : Choice) → ((g : ℕ) → IsListed before g owner → ¬ (IsRefuted old g) → ¬ (IsRefuted new g)) → ChoiceStands a before owner c k → IsOpen before k → IsOpen after k

@@ -157,10 +157,6 @@ keeps_goals-then t u w h k = record {
   refuted = λ i seq e. k.refuted i seq (h.refuted i seq e);
 }
 
--- the store grows
-pub keeps-then : (ds es fs : List Document) → Keeps ds es → Keeps es fs → Keeps ds fs
-keeps-then ds es fs h k = record { belongs = λ s b. k.belongs s (h.belongs s b); same = λ s b. k.same s (h.belongs s b) ∙ h.same s b }
-
 refuted-keep : (a : Automaton) (ds es : List Document) (rows : List GoalRow) → Keeps ds es → AreSeparated a ds rows → AreSeparated a es rows
 refuted-keep a ds es rows k h i seq e = let s = h i seq e in record {
   belongs = k.belongs seq s.belongs;

@@ -5,8 +5,8 @@ use Rattle.std.specs.BTreeMap.{BTreeMap}
 use Rattle.std.proofs.lemmas.Bool.{cases_eq}
 use Rattle.xd_doc.specs.Document.{Document}
 use Rattle.xd_doc.specs.StoredSeq.{IsBelow}
-use Rattle.xd_doc.specs.StoreNodes.{Keeps}
 use Rattle.xd_doc.specs.declared.store.Seq.{Seq}
+use Rattle.xd_doc.proofs.Lists.{all_more}
 use Rattle.xd_auto.specs.declared.auto.State.{State}
 use Rattle.xd_auto.specs.Automaton.{Automaton}
 use Rattle.xd_rules.specs.Rules.{Claim}
@@ -33,7 +33,7 @@ use Rattle.xd_goals.proofs.ChoiceStandsLemmas.{SameGoals, changed_same, holds_sa
 use Rattle.xd_goals.proofs.PotentialLemmas.{rows_bound, lowers-grown, lowers-held, lowers-refuted, made-grows, made-then}
 use Rattle.xd_goals.proofs.IsTreeBySortLemmas.{leaves_there, settled_holds}
 use Rattle.xd_goals.proofs.GrowsByLemmas.{claim_at-is, claim_within}
-use Rattle.xd_rules.proofs.Lists.{all_at, all_map, all_places}
+use Rattle.xd_rules.proofs.Lists.{all_at, all_places}
 use Rattle.xd_goals.proofs.Verdicts.{settled_is_included}
 
 -- a goal was settled, and the facts stay
@@ -174,9 +174,6 @@ whole_of n g h = record { index = h.index; links = h.links; nodes = h.nodes }
 pub none_added : (rows : List GoalRow) → AreMadeFrom (length rows) rows
 none_added rows i le lt = absurd (omega arith)
 
-pub keeps-same : (ds : List Document) → Keeps ds ds
-keeps-same ds = record { belongs = λ s b. b; same = λ s b. refl }
-
 -- trees of a table that stands name goals that are there
 pub trees_there : (a : Automaton) (t : TableView) → FactsOnAutomaton a t → (i : ℕ) → HaveTreesWithin t.nodes (length t.rows) (row_at t.rows i).choices
 trees_there a t h i =
@@ -200,7 +197,7 @@ claim_stays s t k goal c e =
 
 -- goals that wait are there
 pub waiting_below : (rows : List GoalRow) (gs : List GoalId) → AllByRecursion (IsWaitingIn rows) gs → AllByRecursion (IsGoalBelow (length rows)) gs
-waiting_below rows gs h = all_map (IsWaitingIn rows) (IsGoalBelow (length rows)) gs (λ g x. x.there) h
+waiting_below rows gs h = all_more (IsWaitingIn rows) (IsGoalBelow (length rows)) gs (λ g x. x.there) h
 
 -- the last one of a list, and those before it
 pub all_before : {X : Type 0} (P : X → Type 0) (xs ys : List X) (x : X) → ys ≡ xs ++ x ∷ [] → AllByRecursion P ys → AllByRecursion P xs × P x
@@ -215,10 +212,6 @@ all_before {X} P xs ys x e h = split xs (subst (AllByRecursion P) e h)
 
 pub keeps_goals-same : (t : TableView) → KeepsGoals t t
 keeps_goals-same t = record { longer = omega arith; claims = λ i lt. refl; refuted = λ i s e. e }
-
-pub no_length : {X : Type 0} (xs : List X) → length xs ≡ 0 → xs ≡ []
-no_length [] e = refl
-no_length (x ∷ xs) e = absurd (omega arith)
 
 -- at most marks have changed
 module _ (g h : Goals) (m : IsMarking g h) where

@@ -10,7 +10,9 @@ use Rattle.std.proofs.lemmas.Bool.{cases_eq, cases_lt}
 use Rattle.std.proofs.lemmas.Slice.Eq.{bytes_eq-Decides}
 use Rattle.std.proofs.Math.Seq.{get_or-append_seam}
 use Rattle.xd_doc.specs.StoredSeq.{IsBelow}
+use Rattle.xd_doc.proofs.Lists.{there_front, last_at}
 use Rattle.xd_auto.specs.declared.auto.State.{State}
+use Rattle.xd_auto.proofs.Closed.{same_state}
 use Rattle.xd_rules.specs.Rules.{Claim}
 use Rattle.xd_rules.specs.Moves.{AreBelow, claim_with}
 use Rattle.xd_goals.specs.Rows.{GoalRow, TableView, new_row, no_row, row_at, claim_of, claim_at, claim_key, state_numbers, IsListed, Leads, here, behind, IsRowBelow, RowsBelow}
@@ -18,7 +20,7 @@ use Rattle.xd_goals.specs.Kept.{AreLinked, AreThese, BeginsWith, GrowsBy, IsInde
 use Rattle.xd_goals.specs.declared.table.ChoiceNode.{ChoiceNode}
 use Rattle.xd_goals.specs.declared.table.GoalCase.{GoalCase}
 use Rattle.xd_goals.specs.declared.table.Link.{Link}
-use Rattle.xd_rules.proofs.Lists.{slice_get-append, slice_get-seam, slice_get-push_cases}
+use Rattle.xd_rules.proofs.Lists.{slice_get-push_cases}
 
 pub same_goal : (row : GoalRow) → IsSameGoal row row
 same_goal row = record { left = refl; rights = refl; standing = refl; choices = refl; broken = refl; settled = refl }
@@ -33,8 +35,8 @@ past_is_new rows i le =
     record { standing = ap (λ (r : GoalRow). r.standing) e; choices = ap (λ (r : GoalRow). r.choices) e; broken = ap (λ (r : GoalRow). r.broken) e; settled = ap (λ (r : GoalRow). r.settled) e }
 
 pub Leads-append : (links more : List Link) (goal : GoalCase) (first : Option ℕ) → Leads links goal first → Leads (links ++ more) goal first
-Leads-append links more goal first (here k l at is) = here k l (slice_get-append links more k l at) is
-Leads-append links more goal first (behind k l at h) = behind k l (slice_get-append links more k l at) (Leads-append links more goal l.next h)
+Leads-append links more goal first (here k l at is) = here k l (there_front links more k l at) is
+Leads-append links more goal first (behind k l at h) = behind k l (there_front links more k l at) (Leads-append links more goal l.next h)
 
 pub Grows-same : {A : List State → Type 0} (t : TableView) → GrowsBy A t t
 Grows-same t = record {
@@ -75,7 +77,7 @@ module _ (rows : List GoalRow) (nodes : List ChoiceNode) (links : List Link) whe
     kept = λ i lt. same_goal (row_at rows i);
     added = λ i le. past_is_new rows i le;
     allowed = λ i le lt. absurd (omega arith);
-    nodes = λ n x at. subst (λ (ns : List ChoiceNode). slice_get ns n ≡ Some x) (sym e) (slice_get-append nodes (node ∷ []) n x at);
+    nodes = λ n x at. subst (λ (ns : List ChoiceNode). slice_get ns n ≡ Some x) (sym e) (there_front nodes (node ∷ []) n x at);
     listed = λ on goal h. h;
   }
 
@@ -244,12 +246,12 @@ module _ (rows : List GoalRow) (nodes : List ChoiceNode) (links : List Link) whe
       allowed = λ i le lt. absurd (omega (arith, length-set rows on linked_row));
       nodes = λ n x at. at;
       listed = λ k goal h. by_row (λ j r. Leads links goal (row_at rows j).dependents → Leads more_links goal r.dependents)
-          (λ old. behind (length links) new_link (slice_get-seam links new_link) (Leads-append links (new_link ∷ []) goal (row_at rows on).dependents old))
+          (λ old. behind (length links) new_link (last_at links new_link) (Leads-append links (new_link ∷ []) goal (row_at rows on).dependents old))
           (λ j ne old. Leads-append links (new_link ∷ []) goal (row_at rows j).dependents old) k h;
     }
 
     pub IsListed-link : IsListed linked_table on owner
-    IsListed-link = subst (λ (r : GoalRow). Leads more_links owner r.dependents) (sym row_at-linked) (here (length links) new_link (slice_get-seam links new_link) refl)
+    IsListed-link = subst (λ (r : GoalRow). Leads more_links owner r.dependents) (sym row_at-linked) (here (length links) new_link (last_at links new_link) refl)
 
     pub RowsBelow-link : (n : ℕ) → RowsBelow n rows → RowsBelow n linked_rows
     RowsBelow-link n h = record {
@@ -289,10 +291,6 @@ module _ (rows : List GoalRow) (nodes : List ChoiceNode) (links : List Link) whe
 pub Leads-begins : (links : List Link) (first : Option ℕ) (goal : GoalCase) → BeginsWith links first goal → Leads links goal first
 Leads-begins links first goal h = subst (λ (o : Option ℕ). Leads links goal o) (sym h.is_first) (here h.place h.link h.found h.is_case)
 
--- states have the numbers that they have
-pub same_state : (s t : State) → s.number ≡ t.number → s ≡ t
-same_state s t e = ap (λ (n : ℕ). record { number = n }) e
-
 pub same_states : (xs ys : List State) → state_numbers xs ≡ state_numbers ys → xs ≡ ys
 same_states [] [] e = refl
 same_states [] (y ∷ ys) e = absurd (cc)
@@ -318,7 +316,7 @@ found_claim found rows c i h f =
     ap (option_map claim_of) (slice_get-get_or rows i no_row o.0) ∙ ap Some (same_claim (claim_of (row_at rows i)) c o.1)
 
 pub claim_at-row : (rows : List GoalRow) (left : State) (rights : List State) → claim_at (rows ++ new_row left rights ∷ []) (length rows) ≡ Some (claim_with left rights)
-claim_at-row rows left rights = ap (option_map claim_of) (slice_get-seam rows (new_row left rights))
+claim_at-row rows left rights = ap (option_map claim_of) (last_at rows (new_row left rights))
 
 -- a goal whose claim is known is there
 pub claim_within : (rows : List GoalRow) (g : ℕ) (c : Claim State) → claim_at rows g ≡ Some c → (g < length rows) × (claim_of (row_at rows g) ≡ c)

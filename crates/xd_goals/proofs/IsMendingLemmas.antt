@@ -5,6 +5,7 @@ use Rattle.std.proofs.lemmas.Bool.{cases_eq}
 use Rattle.std.proofs.lemmas.Option.{slice_get_within}
 use Rattle.xd_doc.specs.Document.{Document}
 use Rattle.xd_doc.specs.declared.store.Seq.{Seq}
+use Rattle.xd_doc.proofs.Lists.{none_of}
 use Rattle.xd_auto.specs.declared.auto.State.{State}
 use Rattle.xd_auto.specs.Automaton.{Automaton}
 use Rattle.xd_rules.specs.Rules.{Claim}
@@ -26,7 +27,7 @@ use Rattle.xd_goals.proofs.Trees.{broken-grows, choices-grows, standing-grows}
 use Rattle.xd_goals.proofs.Facts.{keeps_goals-grows, keeps_goals-then}
 use Rattle.xd_goals.proofs.PotentialLemmas.{level-changed, made-grows, made-then, potential-grows}
 use Rattle.xd_goals.proofs.ChoiceStandsLemmas.{SameGoals, changed_same, stands-changed}
-use Rattle.xd_goals.proofs.FactsOnLemmas.{IsStep, keeps_goals-same, no_length, none_added, none_made, owner_claim, same_held, stands_grown, step_held, whole_same}
+use Rattle.xd_goals.proofs.FactsOnLemmas.{IsStep, keeps_goals-same, none_added, none_made, owner_claim, same_held, stands_grown, step_held, whole_same}
 
 pub mending-same : (goal : ℕ) (t : TableView) → IsMending goal t t
 mending-same goal t = record {
@@ -228,7 +229,7 @@ mended_none a ds t owner (Some f) n h = absurd (n f refl)
 pub begun_still : (a : Automaton) (goal : ℕ) (s t : TableView) → FactsOnAutomaton a s → FactsOnAutomaton a t → IsMending goal s t → ¬ ((row_at s.rows goal).choices ≡ []) → ¬ ((row_at t.rows goal).choices ≡ [])
 begun_still a goal s t hs ht m begun e =
     let n = ap length e in let f = hs.flags goal in let g = ht.flags goal in let k = m.flags in
-    begun (no_length (row_at s.rows goal).choices (omega arith))
+    begun (none_of (row_at s.rows goal).choices (omega arith))
 
 -- all cases were repaired
 module _ (a : Automaton) (ds : List Document) (goal : ℕ) (s t : TableView) (lt : goal < length s.rows) (waits : (row_at s.rows goal).standing ≡ Waiting) (begun : ¬ ((row_at s.rows goal).choices ≡ []))

@@ -1,13 +1,16 @@
 -- Right heads that are on neither side of a path, and which of them a tree splits on.
-use Rattle.std.proofs.Common.{ℕ, zero, suc, ◌+◌, ◌<◌, ◌≤◌, ◌≡◌, ◌⊎◌, Bool, true, false, cond, nat_eq, ◌||◌, List, [], ◌∷◌, take, get_or, MatchOption, Option, None, Some, inl, inr, ⊎_elim, refl, sym, subst, ◌∙◌, arith}
+use Rattle.std.proofs.Common.{ℕ, zero, suc, ◌+◌, ◌<◌, ◌≤◌, ◌≡◌, ◌⊎◌, Bool, true, false, cond, nat_eq, ◌||◌, List, [], ◌∷◌, take, get_or, MatchOption, Option, None, Some, ⊎_elim, refl, sym, subst, ◌∙◌, arith}
 use Rattle.std.specs.List.{slice_get, AllByRecursion, list_any}
 use Rattle.std.specs.Option.{option_or}
 use Rattle.std.proofs.lemmas.Bool.Decides.{Decides-eqb}
 use Rattle.std.proofs.lemmas.List.{take_more}
 use Rattle.std.proofs.lemmas.Option.{slice_get_within, get_or_from_slice_get}
+use Rattle.std.proofs.lemmas.Bool.{or_left, or_right}
 use Rattle.xd_doc.specs.Document.{Document}
 use Rattle.xd_doc.specs.Stored.{document_at}
 use Rattle.xd_doc.specs.declared.store.Seq.{Seq}
+use Rattle.xd_doc.proofs.Bools.{and_parts, or_cases}
+use Rattle.xd_doc.proofs.Lists.{all_push}
 use Rattle.xd_auto.specs.declared.auto.State.{State}
 use Rattle.xd_auto.specs.Automaton.{Automaton, accepts}
 use Rattle.xd_rules.specs.Members.{IsOneOf}
@@ -22,11 +25,9 @@ use Rattle.xd_goals.specs.declared.table.GoalCase.{GoalCase}
 use Rattle.xd_goals.specs.declared.table.GoalId.{GoalId}
 use Rattle.xd_goals.specs.declared.table.Standing.{Standing}
 use Rattle.xd_goals.specs.declared.table.Standing.TheVariants.{Refuted}
-use Rattle.xd_rules.proofs.Lists.{all_push}
 use Rattle.xd_goals.proofs.GrowsByLemmas.{claim_within}
 use Rattle.xd_goals.proofs.Facts.{separated-grows}
 use Rattle.xd_goals.specs.Kept.{GrowsBy}
-use Rattle.xd_goals.proofs.MeaningLemmas.{and_parts}
 use Rattle.xd_goals.proofs.Trees.{with_state-has, with_state-keeps, with_state-same}
 
 abbrev pub stands_in : State → List State → Bool
@@ -48,17 +49,6 @@ is_placed contents rests s = stands_in s.content contents || stands_in s.rest re
 abbrev pub unplaced : List State → List State → List Side → ℕ
 unplaced contents rests [] = 0
 unplaced contents rests (s ∷ ss) = cond (is_placed contents rests s) (unplaced contents rests ss) (suc (unplaced contents rests ss))
-
-or_cases : (x y : Bool) → (x || y) ≡ true → (x ≡ true) ⊎ (y ≡ true)
-or_cases true y e = inl refl
-or_cases false y e = inr e
-
-or_left : (x y : Bool) → x ≡ true → (x || y) ≡ true
-or_left x y e = rw e refl
-
-or_right : (x y : Bool) → y ≡ true → (x || y) ≡ true
-or_right true y e = refl
-or_right false y e = e
 
 free_is : (x y : Bool) → ¬ (x ≡ true) → ¬ (y ≡ true) → (x || y) ≡ false
 free_is true y n m = absurd (n refl)

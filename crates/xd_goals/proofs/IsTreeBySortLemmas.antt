@@ -5,6 +5,7 @@ use Rattle.std.proofs.lemmas.List.{length-map, length-take-le, map-append}
 use Rattle.std.proofs.lemmas.Option.{slice_get_within, get_or_from_slice_get}
 use Rattle.xd_doc.specs.Document.{Document}
 use Rattle.xd_doc.specs.declared.store.Seq.{Seq}
+use Rattle.xd_doc.proofs.Lists.{map-take_more}
 use Rattle.xd_auto.specs.declared.auto.State.{State}
 use Rattle.xd_auto.specs.declared.auto.LabelMove.{LabelMove}
 use Rattle.xd_auto.specs.declared.auto.TextMove.{TextMove}
@@ -36,7 +37,7 @@ use Rattle.xd_goals.specs.declared.work.CaseEnd.{CaseEnd}
 use Rattle.xd_goals.specs.declared.work.CaseEnd.TheVariants.{Chosen, Failed}
 use Rattle.xd_goals.specs.declared.work.Failure.{Failure}
 use Rattle.xd_goals.specs.declared.table.GoalCase.{GoalCase}
-use Rattle.xd_rules.proofs.Lists.{all_places, map-take_more, slice_get-push_cases}
+use Rattle.xd_rules.proofs.Lists.{all_places, slice_get-push_cases}
 use Rattle.xd_goals.proofs.GrowsByLemmas.{claim_within}
 use Rattle.xd_goals.proofs.Facts.{choice-grows, open_choice-grows}
 use Rattle.xd_goals.proofs.Trees.{StandsAt-one}

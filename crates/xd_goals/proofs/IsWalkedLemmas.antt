@@ -5,6 +5,7 @@ use Rattle.std.proofs.lemmas.Bool.{cases_lt, cases_eq}
 use Rattle.std.proofs.lemmas.List.{get_or_past, get_or_append_left, get_or_default, take_more}
 use Rattle.std.proofs.lemmas.Option.{slice_get_within, get_or_from_slice_get}
 use Rattle.std.proofs.Math.Seq.{get_or-append_seam}
+use Rattle.xd_doc.proofs.Lists.{all_push, all_more}
 use Rattle.xd_rules.specs.Rules.{ChoiceTree, ContentLeaf, RestLeaf, SplitOn, AllLeaves}
 use Rattle.xd_goals.specs.Rows.{GoalRow, TableView, IsRefuted, no_row, row_at}
 use Rattle.xd_goals.specs.Trees.{StandsAt}
@@ -20,7 +21,7 @@ use Rattle.xd_goals.specs.declared.table.ChoiceNode.TheVariants.{Split, Content,
 use Rattle.xd_goals.specs.declared.table.GoalId.{GoalId}
 use Rattle.xd_goals.specs.declared.table.Link.{Link}
 use Rattle.xd_goals.specs.declared.table.Standing.TheVariants.{Holds}
-use Rattle.xd_rules.proofs.Lists.{all_map, all_places, all_push, one_of-get}
+use Rattle.xd_rules.proofs.Lists.{all_places, one_of-get}
 use Rattle.xd_goals.proofs.GrowsByLemmas.{same_but_marks}
 use Rattle.xd_goals.proofs.Trees.{AllLeaves-map}
 use Rattle.xd_goals.proofs.AreLinkedLemmas.{row_read}
@@ -149,7 +150,7 @@ leaves-more nodes m m2 root f h tree s = AllLeaves-map (λ g. is_marked m g ≡ 
 
 pub leads-more : (nodes : List ChoiceNode) (m m2 : List Bool) (ks : List Choice) → ((g : ℕ) → is_marked m g ≡ true → is_marked m2 g ≡ true)
     → AllByRecursion (LeadsToMarked nodes m) ks → AllByRecursion (LeadsToMarked nodes m2) ks
-leads-more nodes m m2 ks f h = all_map (LeadsToMarked nodes m) (LeadsToMarked nodes m2) ks (λ k x tree s. AllLeaves-map (λ g. is_marked m g ≡ true) (λ g. is_marked m2 g ≡ true) f tree (x tree s)) h
+leads-more nodes m m2 ks f h = all_more (LeadsToMarked nodes m) (LeadsToMarked nodes m2) ks (λ k x tree s. AllLeaves-map (λ g. is_marked m g ≡ true) (λ g. is_marked m2 g ≡ true) f tree (x tree s)) h
 
 pub passed-more : (t : TableView) (m m2 : List Bool) (g : ℕ) → ((n : ℕ) → is_marked m n ≡ true → is_marked m2 n ≡ true) → IsPassed t m g → IsPassed t m2 g
 passed-more t m m2 g f (inl e) = inl e
@@ -354,7 +355,7 @@ settled_is t goal h e = record {
   marks = marks_of t.rows;
   start = mark_is t.rows goal ∙ e;
   holds = λ g m. (h g (sym (mark_is t.rows g) ∙ m)).holds;
-  leads = λ g m. all_map (LeadsToSettled t) (LeadsToMarked t.nodes (marks_of t.rows)) (row_at t.rows g).choices
+  leads = λ g m. all_more (LeadsToSettled t) (LeadsToMarked t.nodes (marks_of t.rows)) (row_at t.rows g).choices
       (λ k x tree s. AllLeaves-map (λ n. (row_at t.rows n).settled ≡ true) (λ n. is_marked (marks_of t.rows) n ≡ true) (λ n y. mark_is t.rows n ∙ y) tree (x tree s))
       (h g (sym (mark_is t.rows g) ∙ m)).leads;
 }
@@ -415,7 +416,7 @@ module _ (nodes : List ChoiceNode) (links : List Link) (old new : List GoalRow) 
   leads_still : (g : ℕ) → IsSettledRow (record { rows = old; nodes = nodes; links = links }) (row_at old g) → IsSettledRow after (row_at new g)
   leads_still g h = rw (marks.rows.same g) (record {
     holds = h.holds;
-    leads = all_map (LeadsToSettled (record { rows = old; nodes = nodes; links = links })) (LeadsToSettled after) (row_at old g).choices
+    leads = all_more (LeadsToSettled (record { rows = old; nodes = nodes; links = links })) (LeadsToSettled after) (row_at old g).choices
         (λ k x tree s. AllLeaves-map (λ n. (row_at old n).settled ≡ true) (λ n. (row_at new n).settled ≡ true) marks.kept tree (x tree s)) h.leads;
   })
 
@@ -423,7 +424,7 @@ module _ (nodes : List ChoiceNode) (links : List Link) (old new : List GoalRow) 
   passed_now g (inl e) = leads_still g (was g e)
   passed_now g (inr h) = rw (marks.rows.same g) (record {
     holds = h.0;
-    leads = all_map (LeadsToMarked nodes closed.marks) (LeadsToSettled after) (row_at old g).choices
+    leads = all_more (LeadsToMarked nodes closed.marks) (LeadsToSettled after) (row_at old g).choices
         (λ k x tree s. AllLeaves-map (λ n. is_marked closed.marks n ≡ true) (λ n. (row_at new n).settled ≡ true) (λ n y. marks.marked n (closed.among n y)) tree (x tree s)) h.1;
   })
 

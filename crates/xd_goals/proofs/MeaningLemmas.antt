@@ -1,7 +1,9 @@
 -- What a state accepts, said by its heads.
-use Rattle.std.proofs.Common.{ℕ, ◌≡◌, Bool, true, false, ◌&&◌, List, map, inl, inr, sym, refl, subst}
+use Rattle.std.proofs.Common.{ℕ, ◌≡◌, true, false, ◌&&◌, List, map, inl, inr, sym, subst}
+use Rattle.std.proofs.lemmas.Bool.{and_from}
 use Rattle.xd_doc.specs.Document.{Document, text, element}
 use Rattle.xd_doc.specs.Classes.{class_has}
+use Rattle.xd_doc.proofs.Bools.{and_parts}
 use Rattle.xd_auto.specs.declared.auto.State.{State}
 use Rattle.xd_auto.specs.declared.auto.LabelMove.{LabelMove}
 use Rattle.xd_auto.specs.declared.auto.TextMove.{TextMove}
@@ -11,13 +13,6 @@ use Rattle.xd_rules.specs.Heads.{Head, takes_label, takes_text}
 use Rattle.xd_rules.specs.Meaning.{IsMeaning}
 use Rattle.xd_rules.proofs.Members.{one_of-append_left, one_of-append_right, one_of-append_cases, one_of-map, one_of-from_map, one_of-any, any-one_of}
 use Rattle.xd_rules.specs.Moves.{Accepts, heads_of, is_last_in, label_head, text_head}
-
-pub and_parts : (x y : Bool) → (x && y) ≡ true → (x ≡ true) × (y ≡ true)
-and_parts true y e = (refl, e)
-and_parts false y e = absurd (cc)
-
-and_join : (x y : Bool) → x ≡ true → y ≡ true → (x && y) ≡ true
-and_join x y e f = rw (e, f) refl
 
 accepts-text_from : (a : Automaton) (s : State) (t : List ℕ) (d : Document) → Accepts a s (text t d) → (h : Head State) × IsOneOf h (heads_of a s) × (takes_text h.kind t ≡ true) × Accepts a h.rest d
 accepts-text_from a s t d p =
@@ -40,7 +35,7 @@ accepts-text_to a s t d h m e p =
           let no : false ≡ true = subst (λ (w : Head State). takes_text w.kind t ≡ true) (sym k.2) e in absurd (cc)
       | inr x ↦ let k = one_of-from_map text_head h (moves_at a s).texts x in
           any-one_of (λ (k : TextMove). class_has k.words t && accepts a d k.rest) k.0 (moves_at a s).texts k.1
-          (and_join (class_has k.0.words t) (accepts a d k.0.rest) (subst (λ (w : Head State). takes_text w.kind t ≡ true) (sym k.2) e) (subst (λ (w : Head State). accepts a d w.rest ≡ true) (sym k.2) p))
+          (and_from (class_has k.0.words t) (accepts a d k.0.rest) (subst (λ (w : Head State). takes_text w.kind t ≡ true) (sym k.2) e) (subst (λ (w : Head State). accepts a d w.rest ≡ true) (sym k.2) p))
     ]
 
 accepts-element_to : (a : Automaton) (s : State) (l : List ℕ) (c d : Document) (h : Head State) → IsOneOf h (heads_of a s) → takes_label h.kind l ≡ true
@@ -51,8 +46,8 @@ accepts-element_to a s l c d h m e p q =
           let no : false ≡ true = subst (λ (w : Head State). takes_label w.kind l ≡ true) (sym k.2) e in absurd (cc)
       | inl x ↦ let k = one_of-from_map label_head h (moves_at a s).labels x in
           any-one_of (λ (k : LabelMove). class_has k.class l && (accepts a c k.content && accepts a d k.rest)) k.0 (moves_at a s).labels k.1
-          (and_join (class_has k.0.class l) (accepts a c k.0.content && accepts a d k.0.rest) (subst (λ (w : Head State). takes_label w.kind l ≡ true) (sym k.2) e)
-          (and_join (accepts a c k.0.content) (accepts a d k.0.rest) (subst (λ (w : Head State). accepts a c w.content ≡ true) (sym k.2) p) (subst (λ (w : Head State). accepts a d w.rest ≡ true) (sym k.2) q)))
+          (and_from (class_has k.0.class l) (accepts a c k.0.content && accepts a d k.0.rest) (subst (λ (w : Head State). takes_label w.kind l ≡ true) (sym k.2) e)
+          (and_from (accepts a c k.0.content) (accepts a d k.0.rest) (subst (λ (w : Head State). accepts a c w.content ≡ true) (sym k.2) p) (subst (λ (w : Head State). accepts a d w.rest ≡ true) (sym k.2) q)))
     ]
 
 pub automaton_meaning : (a : Automaton) → IsMeaning (Accepts a) (heads_of a) (is_last_in a)

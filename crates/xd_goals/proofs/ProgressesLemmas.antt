@@ -2,6 +2,7 @@
 use Rattle.std.proofs.Common.{ℕ, ◌≡◌, List, length, arith, ◌∙◌}
 use Rattle.xd_doc.specs.Document.{Document}
 use Rattle.xd_doc.specs.StoreNodes.{Keeps}
+use Rattle.xd_doc.proofs.StoredLemmas.{Keeps-same, Keeps-trans}
 use Rattle.xd_auto.specs.declared.auto.State.{State}
 use Rattle.xd_auto.specs.Automaton.{Automaton}
 use Rattle.xd_auto.specs.Kept.{Answers}
@@ -14,21 +15,21 @@ use Rattle.xd_goals.specs.Progress.{CanBegin, CanWork, HasGrown, Progresses}
 use Rattle.xd_goals.specs.Reached.{IsWaitingIn}
 use Rattle.xd_goals.specs.declared.goals.Goals.{Goals}
 use Rattle.xd_goals.specs.declared.table.GoalId.{GoalId}
-use Rattle.xd_goals.proofs.Facts.{keeps_goals-grows, keeps_goals-then, keeps-then}
-use Rattle.xd_goals.proofs.FactsOnLemmas.{IsStep, keeps-same, keeps_goals-same, none_added, stands_grown, whole_of, whole_same}
+use Rattle.xd_goals.proofs.Facts.{keeps_goals-grows, keeps_goals-then}
+use Rattle.xd_goals.proofs.FactsOnLemmas.{IsStep, keeps_goals-same, none_added, stands_grown, whole_of, whole_same}
 use Rattle.xd_goals.proofs.PotentialLemmas.{made-grows, made-then}
 use Rattle.xd_goals.proofs.ChoiceStandsLemmas.{SameGoals}
 use Rattle.xd_goals.proofs.Trees.{standing-grows}
 
 pub progresses-same : {a : Automaton} {ds : List Document} {g : Goals} → IsWhole g → FactsOn a ds (view_of g) → Progresses a ds ds g g
-progresses-same {a} {ds} {g} whole stands = record { whole = whole; stands = stands; kept = keeps_goals-same (view_of g); keeps = keeps-same ds; made = none_added g.rows.items }
+progresses-same {a} {ds} {g} whole stands = record { whole = whole; stands = stands; kept = keeps_goals-same (view_of g); keeps = Keeps-same ds; made = none_added g.rows.items }
 
 pub progresses-then : {a : Automaton} {ds es fs : List Document} {s t u : Goals} → Progresses a ds es s t → Progresses a es fs t u → Progresses a ds fs s u
 progresses-then {a} {ds} {es} {fs} {s} {t} {u} h k = record {
   whole = k.whole;
   stands = k.stands;
   kept = keeps_goals-then (view_of s) (view_of t) (view_of u) h.kept k.kept;
-  keeps = keeps-then ds es fs h.keeps k.keeps;
+  keeps = Keeps-trans ds es fs h.keeps k.keeps;
   made = made-then (length s.rows.items) (view_of t) (view_of u) k.kept h.made k.made;
 }
 
@@ -38,7 +39,7 @@ progresses-grown {a} {ds} {s} {t} stands h = record {
   whole = whole_of (length a) t h.consistent;
   stands = stands_grown a ds s t h.grows h.consistent stands;
   kept = keeps_goals-grows (view_of s) (view_of t) h.grows;
-  keeps = keeps-same ds;
+  keeps = Keeps-same ds;
   made = made-grows (view_of s) (view_of t) h.grows;
 }
 

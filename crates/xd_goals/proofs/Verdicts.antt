@@ -8,6 +8,7 @@ use Rattle.xd_doc.specs.Stored.{document_at}
 use Rattle.xd_doc.specs.StoredSeq.{BelongsTo}
 use Rattle.xd_doc.specs.StoreNodes.{no_items}
 use Rattle.xd_doc.specs.declared.store.Seq.{Seq}
+use Rattle.xd_doc.proofs.Lists.{all_more}
 use Rattle.xd_auto.specs.declared.auto.State.{State}
 use Rattle.xd_auto.specs.Automaton.{Automaton}
 use Rattle.xd_rules.specs.declared.atom.Atom.{Atom}
@@ -34,7 +35,7 @@ use Rattle.xd_goals.specs.declared.table.Choice.{Choice}
 use Rattle.xd_goals.specs.declared.table.GoalCase.{GoalCase}
 use Rattle.xd_goals.specs.declared.table.Standing.TheVariants.{Holds}
 use Rattle.xd_goals.proofs.GrowsByLemmas.{claim_at-is, claim_within, past_is_new}
-use Rattle.xd_rules.proofs.Lists.{all_at, all_map}
+use Rattle.xd_rules.proofs.Lists.{all_at}
 use Rattle.xd_goals.proofs.Facts.{StandsSomewhere, choices_stand}
 use Rattle.xd_goals.proofs.KeepsRulesLemmas.{case_keeps, side_of_head, gathered-has}
 use Rattle.xd_goals.proofs.MeaningLemmas.{automaton_meaning}
@@ -200,7 +201,7 @@ empty_separates a c left rights =
 -- the choice trees of a table that stands keep the rules
 pub choices_keep : (a : Automaton) (t : TableView) → FactsOnAutomaton a t → (i : ℕ) → AllByRecursion (KeepsRules a t (claim_of (row_at t.rows i))) (row_at t.rows i).choices
 choices_keep a t h i =
-    all_map (StandsSomewhere a t (claim_of (row_at t.rows i))) (KeepsRules a t (claim_of (row_at t.rows i))) (row_at t.rows i).choices
+    all_more (StandsSomewhere a t (claim_of (row_at t.rows i))) (KeepsRules a t (claim_of (row_at t.rows i))) (row_at t.rows i).choices
     (λ k s. let x = s.1 in record {
       head = x.head;
       found = x.found;

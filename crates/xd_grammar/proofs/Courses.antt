@@ -223,7 +223,7 @@ two_rows AfterVal two e l d row ts = (λ g. g, λ g. g)
 behind_leaves : (row rest : Row) (k : Terminal) → go 9 row k ≡ Behind rest → Leaves row k rest
 behind_leaves row rest k is = let h : Holds (Behind rest) row k = subst (λ (o : Out). Holds o row k) is (go_holds 9 row k) in h
 
-main_both : (next : Reading) → Main ≡ Both next → ⊥
+pub main_both : (next : Reading) → Main ≡ Both next → ⊥
 main_both next e = cc
 
 double_of : (reading : Reading) (k : Terminal) (next : Reading) → course reading k ≡ Both next → IsDouble reading

@@ -1,7 +1,8 @@
 -- What a derivation is at its next token.
 use Rattle.std.proofs.Common.{◌≡◌, ◌≢◌, ◌<◌, ◌==◌, ℕ, zero, suc, ◌++◌, ◌⊎◌, Bool, true, false, cond, List, [], ◌∷◌, Option, Some, None, refl, sym, ap, subst, ◌∙◌, append_assoc, inl, inr}
 use Rattle.xd_doc.proofs.Lists.{not_nil, same_first, same_rest}
-use Rattle.std.proofs.lemmas.Bool.{eqb-true}
+use Rattle.std.proofs.lemmas.Bool.{eqb-true, false_from_ne_true}
+use Rattle.xd_doc.proofs.Bools.{not_both}
 use Rattle.xd_grammar.specs.declared.grammar.Nonterminal.{Nonterminal}
 use Rattle.xd_grammar.specs.declared.grammar.Nonterminal.TheVariants as n
 use Rattle.xd_grammar.specs.declared.grammar.Sort.TheVariants as sorts
@@ -45,19 +46,11 @@ same-true j k e = let q : number j ≡ number k = eqb-true (number j) (number k)
 pub same-of : (j k : Terminal) → j ≡ k → same j k ≡ true
 same-of j k e = subst (λ (x : Terminal). same j x ≡ true) e (same-refl j)
 
-false_of : (b : Bool) → (b ≡ true → ⊥) → b ≡ false
-false_of true h = absurd (h refl)
-false_of false h = refl
-
 pub same-other : (j k : Terminal) → j ≢ k → same j k ≡ false
-same-other j k ne = false_of (same j k) (λ e. ne (same-true j k e))
-
-true_false : (b : Bool) → b ≡ true → b ≡ false → ⊥
-true_false true p q = cc
-true_false false p q = cc
+same-other j k ne = false_from_ne_true (same j k) (λ e. ne (same-true j k e))
 
 pub same-false : (j k : Terminal) → same j k ≡ false → j ≢ k
-same-false j k e q = true_false (same j k) (same-of j k q) e
+same-false j k e q = not_both (same j k) (same-of j k q) e
 
 -- a row that begins with a token lets it come next
 pub fits-true : (made row : Row) (e : Extent) (limit depth : ℕ) (k : Terminal) (ts : List Terminal) → Derives e limit depth (made ++ row) (k ∷ ts) → fits made k ≡ true
@@ -131,7 +124,7 @@ some_of false r o made h = inr h
 
 none_of : (rs : List Row) (k : Terminal) → none_may rs k ≡ true → (made : Row) → IsOneOf made rs → may 8 made k ≡ true → ⊥
 none_of [] k h made one m = absurd one
-none_of (r ∷ rs) k h made (inl e) m = let q : may 8 r k ≡ true = subst (λ (x : Row). may 8 x k ≡ true) e m in true_false (cond (may 8 r k) false (none_may rs k)) h (rw q refl)
+none_of (r ∷ rs) k h made (inl e) m = let q : may 8 r k ≡ true = subst (λ (x : Row). may 8 x k ≡ true) e m in not_both (cond (may 8 r k) false (none_may rs k)) h (rw q refl)
 none_of (r ∷ rs) k h made (inr one) m = none_of rs k (right_of (may 8 r k) (none_may rs k) h) made one m
 
 pub chosen_none : (rs : List Row) (k : Terminal) → first_fit rs k ≡ None → (made : Row) → IsOneOf made rs → fits made k ≡ true → ⊥
@@ -146,7 +139,7 @@ chosen_is (r ∷ rs) k made h = elim (some_of (fits r k) r (first_fit rs k) made
 chosen_at : (r : Row) (rs : List Row) (k : Terminal) (b : Bool) → fits r k ≡ b → decided (r ∷ rs) k ≡ true → (made : Row) → first_fit (r ∷ rs) k ≡ Some made → (other : Row) → IsOneOf other (r ∷ rs) → fits other k ≡ true → may 8 other k ≡ true → (decided rs k ≡ true → first_fit rs k ≡ Some made → IsOneOf other rs → other ≡ made) → other ≡ made
 chosen_at r rs k true g h made f other (inl e) p q more = e ∙ some_is r made (rw g at f)
 chosen_at r rs k true g h made f other (inr one) p q more = absurd (none_of rs k (rw g at h) other one q)
-chosen_at r rs k false g h made f other (inl e) p q more = absurd (true_false (fits r k) (subst (λ (x : Row). fits x k ≡ true) e p) g)
+chosen_at r rs k false g h made f other (inl e) p q more = absurd (not_both (fits r k) (subst (λ (x : Row). fits x k ≡ true) e p) g)
 chosen_at r rs k false g h made f other (inr one) p q more = more (rw g at h) (rw g at f) one
 
 -- where the rules are decided, what begins one of them begins the first that fits

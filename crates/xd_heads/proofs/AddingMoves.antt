@@ -3,6 +3,7 @@ use Rattle.std.proofs.Common.{◌≡◌, ℕ, ◌+◌, ◌<◌, ◌≤◌, ◌�
 use Rattle.std.specs.List.{AllByRecursion}
 use Rattle.std.proofs.Math.ListN.{length-set}
 use Rattle.xd_doc.specs.Classes.{LabelClass, TextClass}
+use Rattle.xd_doc.proofs.Lists.{all_append}
 use Rattle.xd_syntax.specs.Tree.{Tree}
 use Rattle.xd_syntax.specs.Table.{Row, tree_at}
 use Rattle.xd_meaning.specs.Heads.{pieces}
@@ -32,7 +33,7 @@ use Rattle.xd_doc.specs.Document.{Document}
 use Rattle.xd_syntax.specs.Fits.{Fits}
 use Rattle.xd_laws.specs.Guarded.{Guarded}
 use Rattle.xd_continuations.proofs.AreMirroredLemmas.{mirrors_accept}
-use Rattle.xd_continuations.proofs.MoveLemmas.{all_append, seq_of-pieces, IsMove, moves_continue}
+use Rattle.xd_continuations.proofs.MoveLemmas.{seq_of-pieces, IsMove, moves_continue}
 use Rattle.xd_continuations.proofs.ChainLemmas.{kept_length, kept_same}
 use Rattle.xd_continuations.proofs.IsBoundedLemmas.{bounded_pieces, bounded_start}
 use Rattle.xd_continuations.specs.Bounds.{IsBounded}

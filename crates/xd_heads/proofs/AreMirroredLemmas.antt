@@ -4,6 +4,7 @@ use Rattle.std.specs.List.{AllByRecursion}
 use Rattle.std.proofs.Math.ListN.{get_or-append, length-set}
 use Rattle.std.proofs.Math.Seq.{get_or-append_seam}
 use Rattle.std.proofs.lemmas.List.{get_or-set_same, get_or-set_other}
+use Rattle.xd_doc.proofs.Lists.{all_more, all_append}
 use Rattle.xd_syntax.specs.Tree.{Tree, Definitions, seq_of}
 use Rattle.xd_syntax.specs.Table.{Row}
 use Rattle.xd_meaning.specs.CanBeEmpty.{can_be_empty}
@@ -23,8 +24,6 @@ use Rattle.xd_continuations.proofs.IsBoundedLemmas.{bounded_none}
 use Rattle.xd_continuations.specs.Mirrors.{Continuations, AreMirrored, no_move, on_label, on_text, AreMirrors}
 use Rattle.xd_heads.specs.Compiled.{numbered, continuations_of, fresh_state, GetsState, state_at, IsOfState, AreCompiled}
 use Rattle.xd_moves.specs.Cells.{Cell}
-use Rattle.xd_continuations.proofs.MoveLemmas.{all_append}
-use Rattle.xd_continuations.proofs.FiniteLemmas.{all_same}
 use Rattle.xd_continuations.proofs.ChainLemmas.{kept_length, list_none}
 use Rattle.xd_moves.proofs.PutsTasksLemmas.{continuation_kept}
 use Rattle.xd_heads.specs.States.{IsOfCell, number_at}
@@ -82,7 +81,7 @@ module _ (types : List Row) (ds : List TypeDef) where
       let same = λ (n i : ℕ) (e : number_at states n ≡ Some i). continuation_kept types a b k i (number_below (length a) states n i c.numbers e) in
       record {
         aligned = c.aligned;
-        numbers = all_same (IsOfCell (length a)) (IsOfCell (length b)) states (number_kept a b k) c.numbers;
+        numbers = all_more (IsOfCell (length a)) (IsOfCell (length b)) states (number_kept a b k) c.numbers;
         continuations = λ n i e. subst (IsOfState types) (sym (same n i e)) (c.continuations n i e);
         flags = λ n i e. c.flags n i e ∙ ap (λ K. can_be_empty (meanings types ds) (seq_of K)) (sym (same n i e));
         complete = λ n i h e.

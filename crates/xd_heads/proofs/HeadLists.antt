@@ -3,6 +3,7 @@ use Rattle.std.proofs.Common.{◌≡◌, ◌≤◌, ◌<◌, ℕ, zero, suc, ari
 use Rattle.std.proofs.lemmas.Bool.{eqb-true}
 use Rattle.std.specs.HashMap.{HashMap, get}
 use Rattle.std.specs.List.{AllByRecursion}
+use Rattle.xd_doc.proofs.Lists.{all_more, all_append, map_append}
 use Rattle.xd_syntax.specs.Tree.{Tree, Empty, Text, Words, Name, Elem, Seq, Alt, Star, Plus, Opt, Val, Definitions, seq_of}
 use Rattle.xd_syntax.specs.TypeText.{depth}
 use Rattle.xd_syntax.specs.ShallowTables.{IsShallow}
@@ -20,9 +21,8 @@ use Rattle.xd_meaning.specs.Heads as laws
 use Rattle.xd_continuations.specs.Continuation.{Move, moves, head_of, IsMerged, IsContinuation}
 use Rattle.xd_continuations.specs.Depths.{IsNoDeeper}
 use Rattle.xd_continuations.proofs.IsMergedLemmas.{tree_merged}
-use Rattle.xd_continuations.proofs.MoveLemmas.{all_append, map_append, IsMove, pieces_stand, seq_of-pieces, moves_are_heads, moves_continue}
+use Rattle.xd_continuations.proofs.MoveLemmas.{IsMove, pieces_stand, seq_of-pieces, moves_are_heads, moves_continue}
 use Rattle.xd_continuations.proofs.NoneDeeperLemmas.{moves_no_deeper}
-use Rattle.xd_continuations.proofs.FiniteLemmas.{all_same}
 use Rattle.xd_continuations.specs.Chains.{KeepsLinks}
 use Rattle.xd_continuations.proofs.ChainLemmas.{kept_then, list_none}
 use Rattle.xd_moves.specs.Pieces.{piece_tree}
@@ -101,7 +101,7 @@ module _ (p q : ProgramTable) (g : GrowsTypes p q) (cells : List Cell) (nodes : 
 pub nodes_stay : (old new : List Row) → KeepsRows old new → (cells : List Cell) → AreOfTypes old cells → AreOfTypes new cells
 nodes_stay old new k cells nodes =
     let l = more_rows old new k in
-    all_same (λ (c : Cell). c.item.node < length old) (λ (c : Cell). c.item.node < length new) cells (λ c h. omega arith) nodes
+    all_more (λ (c : Cell). c.item.node < length old) (λ (c : Cell). c.item.node < length new) cells (λ c h. omega arith) nodes
 
 pub content_belongs : (old new : List Row) → KeepsRows old new → (inside : Option TypeId) → ContentBelongs old inside → ContentBelongs new inside
 content_belongs old new k None b = tt
@@ -143,7 +143,7 @@ heads_stay old new k (h ∷ hs) a =
     let i = heads_stay old new k hs a.1 in cc
 
 pub heads_there : (old new : List Row) → KeepsRows old new → (hs : List Head) → AllByRecursion (HeadBelongs old) hs → AllByRecursion (HeadBelongs new) hs
-heads_there old new k hs a = let l = more_rows old new k in all_same (HeadBelongs old) (HeadBelongs new) hs (λ h b. ((let x = b.0 in omega arith), (let y = b.1 in omega arith))) a
+heads_there old new k hs a = let l = more_rows old new k in all_more (HeadBelongs old) (HeadBelongs new) hs (λ h b. ((let x = b.0 in omega arith), (let y = b.1 in omega arith))) a
 
 content_stays : (old new : List Row) → KeepsRows old new → (o : Option TypeId) → ContentBelongs old o → content_at new o ≡ content_at old o
 content_stays old new k None b = refl

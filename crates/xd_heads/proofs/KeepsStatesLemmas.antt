@@ -1,6 +1,7 @@
 -- A sound program meets what the core asks for, and the core gives what the calls on it promise.
-use Rattle.std.proofs.Common.{◌≡◌, ◌<◌, Bool, true, false, List, length, get_or, Some, arith, refl, ap, sym, subst, ◌∙◌}
+use Rattle.std.proofs.Common.{◌≡◌, ◌<◌, Bool, false, List, length, get_or, Some, arith, ap, subst, ◌∙◌}
 use Rattle.std.specs.List.{AllByRecursion}
+use Rattle.xd_doc.proofs.Bools.{same_tests}
 use Rattle.xd_syntax.specs.Tree.{Tree, seq_of}
 use Rattle.xd_syntax.specs.Table.{Row, AreBuilt, KeepsRows, tree_at}
 use Rattle.xd_syntax.specs.Kept.{ProgramTable, TypeDefStands, ProgramStands, program_tree}
@@ -30,11 +31,6 @@ use Rattle.xd_heads.proofs.Mirrored.{type_is, type_of_number, types_stay, to_mir
 
 pub are_merged : (p : ProgramTable) → ProgramStands p → AreBuilt false p.types → AreMerged (names_of (program_tree p))
 are_merged p s b = program_merged p b (bodies_stand p s)
-
-same_tests : (a b : Bool) → (a ≡ true → b ≡ true) → (b ≡ true → a ≡ true) → a ≡ b
-same_tests true b f g = sym (f refl)
-same_tests false true f g = g refl
-same_tests false false f g = refl
 
 -- marks that say of each node whether the empty document fits it say whether it can be empty
 pub marks_decide : (types : List Row) (ds : List TypeDef) → Guarded (meanings types ds) → (marks : List Bool) → AreEmptyMarks types ds marks → AreDecidingMarks types ds marks

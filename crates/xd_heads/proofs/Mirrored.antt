@@ -1,6 +1,7 @@
 -- Cells that mirror an automaton, by heads and by moves.
 use Rattle.std.proofs.Common.{◌≡◌, ℕ, zero, suc, ◌+◌, ◌-◌, ◌<◌, ◌≤◌, arith, cond, false, List, [], ◌∷◌, ◌++◌, map, length, get_or, Option, Some, None, refl, ap, sym, subst, ◌∙◌}
 use Rattle.std.specs.List.{AllByRecursion}
+use Rattle.xd_doc.proofs.Lists.{all_more, all_append}
 use Rattle.xd_syntax.specs.Tree.{Tree, Definitions, seq_of}
 use Rattle.xd_syntax.specs.Table.{Row, KeepsRows, tree_at}
 use Rattle.xd_syntax.specs.TypeText.{depth}
@@ -18,9 +19,8 @@ use Rattle.xd_meaning.specs.Heads.{Head, heads, pieces}
 use Rattle.xd_continuations.specs.Continuation.{Move, moves, head_of, AreMerged, IsContinuation}
 use Rattle.xd_continuations.specs.Mirrors.{Continuations, AreMirrored, no_move, on_label, on_text}
 use Rattle.xd_continuations.specs.Bounds.{node_count, IsBounded}
-use Rattle.xd_continuations.proofs.MoveLemmas.{all_append, IsMove, pieces-seq_of, moves_are_heads, moves_continue}
+use Rattle.xd_continuations.proofs.MoveLemmas.{IsMove, pieces-seq_of, moves_are_heads, moves_continue}
 use Rattle.xd_continuations.proofs.IsBoundedLemmas.{bounded_larger}
-use Rattle.xd_continuations.proofs.FiniteLemmas.{all_same}
 use Rattle.xd_continuations.specs.Chains.{lists_after, lists_in, list_at}
 use Rattle.xd_moves.specs.Pieces.{piece_tree, turns_of}
 use Rattle.xd_moves.specs.Found.{continuation, AreOfTypes, AreBounded}
@@ -211,7 +211,7 @@ mirrors_stay p q c a m adds e =
           (head_moves_more (continuation_of p.types c) (continuation_of q.types c) (λ t U g. same t ∙ g) (m.moves s T (back s T h)));
       kept = record {
         numbers = m.kept.numbers;
-        nodes = all_same (λ (d : Cell). d.item.node < length p.types) (λ (d : Cell). d.item.node < length q.types) c.cells
+        nodes = all_more (λ (d : Cell). d.item.node < length p.types) (λ (d : Cell). d.item.node < length q.types) c.cells
             (λ d h. let l = more_rows p.types q.types adds.types in omega arith) m.kept.nodes;
         pieces = λ n k h. subst IsContinuation (sym (continuation_stays p.types q.types adds.types c.cells m.kept.nodes k)) (m.kept.pieces n k h);
         bounded = λ n h.

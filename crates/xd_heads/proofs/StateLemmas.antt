@@ -6,6 +6,9 @@ use Rattle.std.specs.Option.{IfSome, IfNone}
 use Rattle.std.proofs.lemmas.Bool.Decides.{nat_tests}
 use Rattle.std.proofs.lemmas.List.{length-map}
 use Rattle.xd_doc.specs.Classes.{LabelClass, TextClass}
+use Rattle.xd_doc.proofs.Bools.{and_with_true}
+use Rattle.xd_doc.proofs.Lists.{all_more}
+use Rattle.xd_doc.proofs.Numbers.{number_same as same_number, same_eq}
 use Rattle.xd_syntax.specs.Tree.{Tree, Definitions, any_type, seq_of}
 use Rattle.xd_syntax.specs.Types.{form_of}
 use Rattle.xd_syntax.specs.declared.types.TypeId.{TypeId}
@@ -31,7 +34,6 @@ use Rattle.xd_moves.specs.Pieces.{piece_tree}
 use Rattle.xd_moves.specs.Found.{continuation, move_of, AreOfTypes, AreBounded}
 use Rattle.xd_heads.specs.States.{EachOnce, number_at, AddsNumber, IsOfCell, AddsStates, nodes_from, nodes_in}
 use Rattle.xd_moves.specs.Cells.{Cell}
-use Rattle.xd_continuations.proofs.FiniteLemmas.{all_same}
 use Rattle.xd_continuations.proofs.IsBoundedLemmas.{bounded_length}
 use Rattle.xd_continuations.proofs.ChainLemmas.{kept_length, lists_within_are}
 use Rattle.xd_moves.proofs.CellLemmas.{few_cells}
@@ -111,22 +113,16 @@ module _ {A : Type 0} (test : A → Bool) (x : A) (whole : test x ≡ true) (rig
 
 -- ---- numbers
 
-same_number : (m n : ℕ) → nat_eq m n ≡ true → n ≡ m
-same_number m n h = grind (arith, nat_tests)
-
-number_same : (m : ℕ) → nat_eq m m ≡ true
-number_same m = grind (arith, nat_tests)
-
 -- what an insertion of a number leaves
 pub number_added : (keys old new : List ℕ) (k : ℕ) → keys ≡ old → new ≡ if list_any (nat_eq k) keys then keys else keys ++ k ∷ [] → AddsNumber old k new
-number_added keys old new k v e = added (nat_eq k) k (number_same k) (same_number k) old new (subst (λ ks. new ≡ if list_any (nat_eq k) ks then ks else ks ++ k ∷ []) v e)
+number_added keys old new k v e = added (nat_eq k) k (same_eq k) (same_number k) old new (subst (λ ks. new ≡ if list_any (nat_eq k) ks then ks else ks ++ k ∷ []) v e)
 
 -- where a number is found, and that it is nowhere where none is found
 pub number_found : (xs : List ℕ) (k : ℕ) (o : Option ℕ) → o ≡ position (nat_eq k) xs → IfSome o (λ i. slice_get xs i ≡ Some k)
-number_found xs k = found_at_place (nat_eq k) k (number_same k) (same_number k) xs
+number_found xs k = found_at_place (nat_eq k) k (same_eq k) (same_number k) xs
 
 pub number_nowhere : (xs : List ℕ) (k : ℕ) (o : Option ℕ) → o ≡ position (nat_eq k) xs → IfNone o (Among k xs → ⊥)
-number_nowhere xs k = none_at_place (nat_eq k) k (number_same k) (same_number k) xs
+number_nowhere xs k = none_at_place (nat_eq k) k (same_eq k) (same_number k) xs
 
 once_push : (ks : List ℕ) (k : ℕ) → EachOnce ks → (Among k ks → ⊥) → EachOnce (ks ++ k ∷ [])
 once_push [] k e h = ((λ m. m), tt)
@@ -191,7 +187,7 @@ states_few E m types cells states a nodes b o s =
 -- ---- states that are added
 
 numbers_kept : (old new : List Cell) → KeepsLinks old new → (os : List ℕ) → AllByRecursion (IsOfCell (length old)) os → AllByRecursion (IsOfCell (length new)) os
-numbers_kept old new k os a = let l = kept_length old new k in all_same (IsOfCell (length old)) (IsOfCell (length new)) os (λ n h. omega arith) a
+numbers_kept old new k os a = let l = kept_length old new k in all_more (IsOfCell (length old)) (IsOfCell (length new)) os (λ n h. omega arith) a
 
 pub states_none : (old new : List Cell) → KeepsLinks old new → (states : List ℕ) → AddsStates old new states states
 states_none old new k states = record { more = []; grown = sym (append-nil states); numbers = numbers_kept old new k states }
@@ -312,13 +308,9 @@ one_number states i j k a b = let e : Some j ≡ Some k = sym a ∙ b in cc
 
 -- ---- continuations that can be empty
 
-and_true : (b : Bool) → b ≡ (b && true)
-and_true true = refl
-and_true false = refl
-
 pub empty_first : (E : Definitions) (T : Tree) (K : List Tree) → can_be_empty E (seq_of (T ∷ K)) ≡ (can_be_empty E T && can_be_empty E (seq_of K))
 unfolding can_be_empty
-empty_first E T [] = and_true (empty_by (empty_name E (length E)) T)
+empty_first E T [] = and_with_true (empty_by (empty_name E (length E)) T)
 empty_first E T (U ∷ Us) = refl
 
 pub none_empty : (E : Definitions) → can_be_empty E (seq_of []) ≡ true

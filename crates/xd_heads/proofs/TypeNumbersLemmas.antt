@@ -1,6 +1,7 @@
 -- Continuations as types of a program that grows.
 use Rattle.std.proofs.Common.{◌≡◌, ◌≤◌, ◌<◌, ℕ, arith, true, false, ◌||◌, List, [], ◌∷◌, ◌++◌, map, length, append_assoc, append-nil, refl, ap, sym, subst, ◌∙◌}
 use Rattle.std.specs.List.{AllByRecursion}
+use Rattle.xd_doc.proofs.Lists.{all_more, all_append, map_append}
 use Rattle.xd_syntax.specs.Tree.{Tree, Empty, Text, Words, Name, Elem, Seq, Alt, Star, Plus, Opt, Val, is_empty}
 use Rattle.xd_syntax.specs.TreeForms.{is_seq}
 use Rattle.xd_syntax.specs.Table.{Row, IsSeqPart, KeepsRows, tree_at}
@@ -9,8 +10,6 @@ use Rattle.xd_syntax.specs.SoundTables.{IsTypeAt}
 use Rattle.xd_syntax.specs.Kept.{ProgramTable}
 use Rattle.xd_syntax.specs.declared.types.TypeId.{TypeId}
 use Rattle.xd_continuations.specs.Continuation.{is_piece, IsContinuation}
-use Rattle.xd_continuations.proofs.MoveLemmas.{all_append, map_append}
-use Rattle.xd_continuations.proofs.FiniteLemmas.{all_same}
 use Rattle.xd_continuations.specs.Chains.{list_at}
 use Rattle.xd_moves.specs.Pieces.{piece_tree}
 use Rattle.xd_moves.specs.Found.{continuation}
@@ -37,7 +36,7 @@ trees_stay old new k [] a = refl
 trees_stay old new k (n ∷ ns) a = let e = tree_stays old new k n a.0 in let i = trees_stay old new k ns a.1 in cc
 
 pub there_stay : (old new : List Row) → KeepsRows old new → (ns : List ℕ) → AllByRecursion (λ i. i < length old) ns → AllByRecursion (λ i. i < length new) ns
-there_stay old new k ns a = let l = more_rows old new k in all_same (λ i. i < length old) (λ i. i < length new) ns (λ i h. omega arith) a
+there_stay old new k ns a = let l = more_rows old new k in all_more (λ i. i < length old) (λ i. i < length new) ns (λ i h. omega arith) a
 
 pub typing_more : (p q r : ProgramTable) (cells : List Cell) (number at : ℕ) (ids : List TypeId) → IsTyping p q cells number at ids → (d : Cell) → list_at cells at ≡ d.item ∷ list_at cells d.behind → d.behind < at →
     d.item.node < length p.types → (id : TypeId) → IsTypeAt r.types (piece_tree q.types d.item) id → GrowsTypes q r → IsTyping p r cells number d.behind (ids ++ id ∷ [])

@@ -1,11 +1,13 @@
 -- Inclusion of types, by states that accept what fits them, and its proofs.
-use Rattle.std.proofs.Common.{◌≡◌, ℕ, Bool, true, false, inl, inr, List, [], ◌∷◌, Option, Some, refl, sym, ap, subst, ◌∙◌}
+use Rattle.std.proofs.Common.{◌≡◌, ℕ, true, inl, List, [], ◌∷◌, Option, Some, sym, ap, subst, ◌∙◌}
 use Rattle.std.specs.List.{AllByRecursion}
+use Rattle.std.proofs.lemmas.Bool.{false_from_ne_true}
 use Rattle.xd_doc.specs.Document.{Document, is_proper}
+use Rattle.xd_doc.proofs.Bools.{not_true_and_false}
 use Rattle.xd_auto.specs.Automaton.{Automaton, accepts}
 use Rattle.xd_auto.specs.declared.auto.State.{State}
-use Rattle.xd_rules.specs.Members.{IsOneOf}
 use Rattle.xd_rules.specs.Moves.{Accepts, claim_with}
+use Rattle.xd_rules.proofs.Members.{only_one}
 use Rattle.xd_goals.specs.Rows.{TableView, claim_of, row_at}
 use Rattle.xd_goals.specs.Truth.{IsIncluded}
 use Rattle.xd_goals.specs.Verdicts.{IsProved}
@@ -27,17 +29,6 @@ use Rattle.xd_syntax.specs.Tree.{Tree}
 use Rattle.xd_inclusion.specs.Inclusion.{FitsAlone, ProvesInclusion}
 use Rattle.xd_inclusion.specs.States.{IsStateOf}
 
-only_one : {X : Type 0} (x y : X) → IsOneOf x (y ∷ []) → x ≡ y
-only_one x y (inl e) = sym e
-only_one x y (inr e) = absurd e
-
-pub false_if : (b : Bool) → (b ≡ true → ⊥) → b ≡ false
-false_if true h = absurd (h refl)
-false_if false h = refl
-
-not_both : ◌≡◌ {A = Bool} false true → ⊥
-not_both e = cc
-
 module _ (p : ProgramTable) (c : CellsView) (a : Automaton) (L R : Tree) (one other : State) (left : IsStateOf p c a L one) (right : IsStateOf p c a R other) where
   abbrev P : ProgramTree
   P = program_tree p
@@ -51,10 +42,10 @@ module _ (p : ProgramTable) (c : CellsView) (a : Automaton) (L R : Tree) (one ot
       inl ((right.exact d).0 (subst (λ s. Accepts a s d) (only_one w.0 other w.1) w.2))
 
   fits_alone : (d : Document) → is_proper d ≡ true → IsApart a one other d → FitsAlone (names_of P) L R d
-  fits_alone d proper h = record { proper = proper; left = (left.exact d).0 h.accepted; right = λ f. not_both (sym h.refused ∙ (right.exact d).1 f) }
+  fits_alone d proper h = record { proper = proper; left = (left.exact d).0 h.accepted; right = λ f. not_true_and_false (sym h.refused ∙ (right.exact d).1 f) }
 
   is_apart : (d : Document) → FitsAlone (names_of P) L R d → IsApart a one other d
-  is_apart d h = record { accepted = (left.exact d).1 h.left; refused = false_if (accepts a d other) (λ e. h.right ((right.exact d).0 e)) }
+  is_apart d h = record { accepted = (left.exact d).1 h.left; refused = false_from_ne_true (accepts a d other) (λ e. h.right ((right.exact d).0 e)) }
 
   -- a least document that the states tell apart is one that the types tell apart
   pub least_alone : (d : Document) → is_proper d ≡ true → IsLeastUpTo size_limit (IsApart a one other) d → IsLeastUpTo size_limit (FitsAlone (names_of P) L R) d

@@ -2,8 +2,10 @@
 -- of them where the pattern is linear.
 use Rattle.std.proofs.Common.{◌≡◌, ℕ, Bool, true, false, cond, ◌||◌, ◌&&◌, ◌⊎◌, inl, inr, List, [], ◌∷◌, ◌++◌, Some, refl, ap, sym, subst, ◌∙◌}
 use Rattle.std.specs.Str.{bytes_eq, is_utf8}
+use Rattle.std.proofs.lemmas.Bool.{or_left, or_right}
 use Rattle.xd_doc.specs.Word.{is_word}
 use Rattle.xd_doc.specs.Document.{Document, empty, text, element, join, is_proper}
+use Rattle.xd_doc.proofs.Bools.{and_parts}
 use Rattle.xd_syntax.specs.Words.{has_word}
 use Rattle.xd_syntax.specs.Tree.{Tree, Definitions, body, occurrences}
 use Rattle.xd_syntax.specs.Placed.{PlacedTree, unplaced, variables}
@@ -11,7 +13,7 @@ use Rattle.xd_syntax.specs.Ways.{Way, Among, then_way}
 use Rattle.xd_meaning.specs.Meaning.{Environment, looked_up}
 use Rattle.xd_syntax.specs.Proper.{IsProperTree}
 use Rattle.xd_laws.proofs.Unfoldings.{same_word_eq}
-use Rattle.xd_laws.proofs.WordLists.{both, either, or_left, or_right, has_word_left, has_word_right}
+use Rattle.xd_laws.proofs.WordLists.{either, has_word_left, has_word_right}
 use Rattle.xd_laws.proofs.WayShapes.{IsWay, way_empty, way_text, way_words, way_name, way_elem, way_seq, way_left, way_right, way_no_turn, way_turn, way_plus, way_absent, way_present, way_val}
 
 -- Proper documents.
@@ -22,20 +24,20 @@ proper_element l c r a b d = rw (a, b, d) refl
 pub join_proper : (a b : Document) → is_proper a ≡ true → is_proper b ≡ true → is_proper (join a b) ≡ true
 join_proper empty b h k = k
 join_proper (text s r) b h k =
-    let q = both (is_utf8 s) (is_proper r) h in rw (q.0, join_proper r b q.1 k) refl
+    let q = and_parts (is_utf8 s) (is_proper r) h in rw (q.0, join_proper r b q.1 k) refl
 join_proper (element l c r) b h k =
-    let q = both (is_word l) (is_proper c && is_proper r) h in
-    let p = both (is_proper c) (is_proper r) q.1 in
+    let q = and_parts (is_word l) (is_proper c && is_proper r) h in
+    let p = and_parts (is_proper c) (is_proper r) q.1 in
     proper_element l c (join r b) q.0 p.0 (join_proper r b p.1 k)
 
 pub proper_joined : (a b : Document) → is_proper (join a b) ≡ true → (is_proper a ≡ true) × (is_proper b ≡ true)
 proper_joined empty b h = (refl, h)
 proper_joined (text s r) b h =
-    let q = both (is_utf8 s) (is_proper (join r b)) h in
+    let q = and_parts (is_utf8 s) (is_proper (join r b)) h in
     let i = proper_joined r b q.1 in (rw (q.0, i.0) refl, i.1)
 proper_joined (element l c r) b h =
-    let q = both (is_word l) (is_proper c && is_proper (join r b)) h in
-    let p = both (is_proper c) (is_proper (join r b)) q.1 in
+    let q = and_parts (is_word l) (is_proper c && is_proper (join r b)) h in
+    let p = and_parts (is_proper c) (is_proper (join r b)) q.1 in
     let i = proper_joined r b p.1 in (proper_element l c r q.0 p.0 i.0, i.1)
 
 abbrev pub AreProper : Environment → Type 0
@@ -61,12 +63,12 @@ then_proper v w a b = record {
 
 pub proper_way : (E : Definitions) {T : Tree} {d : Document} {w : Way} → IsWay E T d w → is_proper d ≡ true → IsProperWay w
 proper_way E way_empty p = record { taken = refl; rest = p; bindings = tt }
-proper_way E (way_text {s} {r}) p = let q = both (is_utf8 s) (is_proper r) p in record { taken = rw (q.0) refl; rest = q.1; bindings = tt }
-proper_way E (way_words {s} {r} h) p = let q = both (is_utf8 s) (is_proper r) p in record { taken = rw (q.0) refl; rest = q.1; bindings = tt }
+proper_way E (way_text {s} {r}) p = let q = and_parts (is_utf8 s) (is_proper r) p in record { taken = rw (q.0) refl; rest = q.1; bindings = tt }
+proper_way E (way_words {s} {r} h) p = let q = and_parts (is_utf8 s) (is_proper r) p in record { taken = rw (q.0) refl; rest = q.1; bindings = tt }
 proper_way E (way_name e h) p = proper_way E h p
 proper_way E (way_elem {l = l} {k = k} {r = r} c h e) p =
-    let q = both (is_word l) (is_proper k && is_proper r) p in
-    let n = both (is_proper k) (is_proper r) q.1 in
+    let q = and_parts (is_word l) (is_proper k && is_proper r) p in
+    let n = and_parts (is_proper k) (is_proper r) q.1 in
     record { taken = proper_element l k empty q.0 n.0 refl; rest = n.1; bindings = (proper_way E h n.0).bindings }
 proper_way E (way_seq {v = v} {w = w} h k) p = let a = proper_way E h p in then_proper v w a (proper_way E k a.rest)
 proper_way E (way_left h) p = proper_way E h p

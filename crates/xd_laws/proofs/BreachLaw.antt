@@ -1,9 +1,10 @@
 -- What is computed is the first breach; and there is a first breach exactly where the rules do not
 -- hold.
-use Rattle.std.proofs.Common.{◌≡◌, ℕ, suc, ◌+◌, arith, Bool, true, false, not, ◌&&◌, ◌||◌, nat_eq, List, [], ◌∷◌, map, Option, Some, None, refl, ap, sym, subst, ◌∙◌, ◌⊎◌, inl, inr}
+use Rattle.std.proofs.Common.{◌≡◌, ℕ, suc, ◌+◌, arith, Bool, true, false, not, ◌||◌, nat_eq, List, [], ◌∷◌, map, Option, Some, None, refl, ap, sym, subst, ◌∙◌, ◌⊎◌, inl, inr}
 use Rattle.std.specs.List.{AllByRecursion}
-use Rattle.std.proofs.lemmas.Bool.{eq-eqb, eqb-true}
+use Rattle.std.proofs.lemmas.Bool.{eq-eqb, eqb-true, and_from, or_left, or_right}
 use Rattle.std.proofs.lemmas.Slice.Eq.{bytes_eq-Decides}
+use Rattle.xd_doc.proofs.Bools.{and_parts, or_cases, not_true}
 use Rattle.xd_syntax.specs.Tree.{Tree, Definitions}
 use Rattle.xd_meaning.specs.CanBeEmpty.{can_be_empty}
 use Rattle.xd_meaning.specs.Heads.{Head, heads}
@@ -12,23 +13,10 @@ use Rattle.xd_meaning.specs.Consistent.{Atom, this_label, other_label, this_text
 use Rattle.xd_meaning.specs.Breach.{Reason, bad_empty, bad_case, bad_split, bad_leaf, Lined, line_behind, empty_lines, goals_of, TreeBreach, content_leaf, rest_leaf, at_split, in_content, in_rest, TextBreach, text_leaf, text_content, text_split, ChoiceBreach, CasesBreach, too_many, too_few, other_case, in_tree, later_case, GoalBreach, on_empty, in_cases, GoalsBreach, this_goal, later_goal, IsFirstBreach}
 use Rattle.xd_syntax.proofs.Members.{mem_append, mem_map}
 use Rattle.xd_laws.specs.Laws.{BreachesAreFound, RulesAreTested, BreachIsOne}
-use Rattle.xd_laws.proofs.WordLists.{both, or_left, or_right}
 use Rattle.xd_laws.proofs.SameTrees.{same_tree-is, tree_same}
 use Rattle.xd_laws.proofs.FirstWrong.{same_tree, same_atom, head_matches, has_number, has_part, some_head, each_some_head, leaf_stands, split_allowed, reason_unless, or_next, wrong_choice, wrong_text, wrong_tree, wrong_case, Refusal, at_line, same_head_atom, wrong_cases, right_is_empty, empty_stands, wrong_goal, wrong_goals, first_wrong}
 
 -- The tests of leaves, splits, atoms and the empty document decide their rules.
-
-both_true : (a b : Bool) → a ≡ true → b ≡ true → (a && b) ≡ true
-both_true true b p q = q
-both_true false b p q = absurd (cc)
-
-either_true : (a b : Bool) → (a || b) ≡ true → (a ≡ true) ⊎ (b ≡ true)
-either_true true b p = inl refl
-either_true false b p = inr p
-
-not_true : (a : Bool) → not a ≡ true → a ≡ false
-not_true true p = absurd (cc)
-not_true false p = refl
 
 true_not : (a : Bool) → (a ≡ true → ⊥) → not a ≡ true
 true_not true p = absurd (p refl)
@@ -39,7 +27,7 @@ same_from T U e = subst (λ V. same_tree T V ≡ true) e (tree_same T)
 
 number_in : (ns : List ℕ) (n : ℕ) → has_number ns n ≡ true → Among n ns
 number_in [] n e = absurd (cc)
-number_in (m ∷ ms) n e = elim (either_true (nat_eq m n) (has_number ms n) e) [ inl p ↦ inl (eqb-true m n p) | inr q ↦ inr (number_in ms n q) ]
+number_in (m ∷ ms) n e = elim (or_cases (nat_eq m n) (has_number ms n) e) [ inl p ↦ inl (eqb-true m n p) | inr q ↦ inr (number_in ms n q) ]
 
 in_number : (ns : List ℕ) (n : ℕ) → Among n ns → has_number ns n ≡ true
 in_number [] n a = absurd a
@@ -56,7 +44,7 @@ module _ (part : Head → Tree) (hs : List Head) where
 
   some_there : (ns : List ℕ) (T : Tree) → some_head part hs ns T ≡ true → HasPart part hs ns T
   some_there [] T e = absurd (cc)
-  some_there (n ∷ ns) T e = go (λ q. some_there ns T q) (either_true (has_part part T (numbered hs n)) (some_head part hs ns T) e)
+  some_there (n ∷ ns) T e = go (λ q. some_there ns T q) (or_cases (has_part part T (numbered hs n)) (some_head part hs ns T) e)
     where
       go : (some_head part hs ns T ≡ true → HasPart part hs ns T) → (has_part part T (numbered hs n) ≡ true) ⊎ (some_head part hs ns T ≡ true) → HasPart part hs (n ∷ ns) T
       go rec (inl p) = let r = part_there T (numbered hs n) p in (n, r.0, inl refl, r.1, r.2)
@@ -69,23 +57,23 @@ module _ (part : Head → Tree) (hs : List Head) where
 
   each_there : (ns : List ℕ) (Ts : List Tree) → each_some_head part hs ns Ts ≡ true → AllByRecursion (HasPart part hs ns) Ts
   each_there ns [] e = tt
-  each_there ns (T ∷ Ts) e = let r = both (some_head part hs ns T) (each_some_head part hs ns Ts) e in (some_there ns T r.0, each_there ns Ts r.1)
+  each_there ns (T ∷ Ts) e = let r = and_parts (some_head part hs ns T) (each_some_head part hs ns Ts) e in (some_there ns T r.0, each_there ns Ts r.1)
 
   there_each : (ns : List ℕ) (Ts : List Tree) → AllByRecursion (HasPart part hs ns) Ts → each_some_head part hs ns Ts ≡ true
   there_each ns [] a = refl
-  there_each ns (T ∷ Ts) a = both_true (some_head part hs ns T) (each_some_head part hs ns Ts) (let r = a.0 in there_some ns T r.0 r.1 r.2 r.3 r.4) (there_each ns Ts a.1)
+  there_each ns (T ∷ Ts) a = and_from (some_head part hs ns T) (each_some_head part hs ns Ts) (let r = a.0 in there_some ns T r.0 r.1 r.2 r.3 r.4) (there_each ns Ts a.1)
 
   leaf_rule_of : (gs : List Goal) (left : Head) (ns : List ℕ) (n : ℕ) (o : Option Goal) → numbered gs n ≡ o → leaf_stands part left hs ns o ≡ true →
       LeafRule part gs left hs ns n
   leaf_rule_of gs left ns n None q e = absurd (cc)
   leaf_rule_of gs left ns n (Some g) q e =
-      let r = both (same_tree g.left (part left)) (each_some_head part hs ns g.rights) e in
+      let r = and_parts (same_tree g.left (part left)) (each_some_head part hs ns g.rights) e in
       record { goal = g; stands = q; same_left = same_tree-is g.left (part left) r.0; rights_stand = each_there ns g.rights r.1 }
 
   rule_leaf : (gs : List Goal) (left : Head) (ns : List ℕ) (n : ℕ) → LeafRule part gs left hs ns n → leaf_stands part left hs ns (numbered gs n) ≡ true
   rule_leaf gs left ns n r =
       subst (λ (o : Option Goal). leaf_stands part left hs ns o ≡ true) (sym r.stands)
-      (both_true (same_tree (r.goal).left (part left)) (each_some_head part hs ns (r.goal).rights) (same_from (r.goal).left (part left) r.same_left) (there_each ns (r.goal).rights r.rights_stand))
+      (and_from (same_tree (r.goal).left (part left)) (each_some_head part hs ns (r.goal).rights) (same_from (r.goal).left (part left) r.same_left) (there_each ns (r.goal).rights r.rights_stand))
 
 module _ (a : Atom) (hs : List Head) where
   head_there : (o : Option Head) → head_matches a o ≡ true → (h : Head) × (o ≡ Some h) × (matches_atom a h.kind ≡ true)
@@ -94,7 +82,7 @@ module _ (a : Atom) (hs : List Head) where
 
   split_rule : (s : Sides) (n : ℕ) → split_allowed a hs s n ≡ true → SplitRule a hs s n
   split_rule s n e =
-      let r = both (head_matches a (numbered hs n)) (not (has_number s.content n || has_number s.rest n)) e in
+      let r = and_parts (head_matches a (numbered hs n)) (not (has_number s.content n || has_number s.rest n)) e in
       let h = head_there (numbered hs n) r.0 in
       let f = not_true (has_number s.content n || has_number s.rest n) r.1 in
       record {
@@ -107,10 +95,10 @@ module _ (a : Atom) (hs : List Head) where
 
   rule_split : (s : Sides) (n : ℕ) → SplitRule a hs s n → split_allowed a hs s n ≡ true
   rule_split s n r =
-      both_true (head_matches a (numbered hs n)) (not (has_number s.content n || has_number s.rest n))
+      and_from (head_matches a (numbered hs n)) (not (has_number s.content n || has_number s.rest n))
       (subst (λ (o : Option Head). head_matches a o ≡ true) (sym r.stands) r.fits)
       (true_not (has_number s.content n || has_number s.rest n)
-      (λ e. elim (either_true (has_number s.content n) (has_number s.rest n) e) [ inl p ↦ r.new_to_content (number_in s.content n p) | inr q ↦ r.new_to_rest (number_in s.rest n q) ]))
+      (λ e. elim (or_cases (has_number s.content n) (has_number s.rest n) e) [ inl p ↦ r.new_to_content (number_in s.content n p) | inr q ↦ r.new_to_rest (number_in s.rest n q) ]))
 
 atom_is : (a b : Atom) → same_atom a b ≡ true → a ≡ b
 atom_is (this_label l) (this_label m) e = ap this_label ((bytes_eq-Decides l m).0 e)
@@ -130,10 +118,10 @@ pair n a = (n, a)
 
 head_atom_is : (c : Case) (w : HeadAtom) → same_head_atom c w ≡ true → head_atom c ≡ w
 head_atom_is c w e =
-    let r = both (nat_eq c.head w.0) (same_atom c.atom w.1) e in ap (λ n. pair n c.atom) (eqb-true c.head w.0 r.0) ∙ ap (pair w.0) (atom_is c.atom w.1 r.1)
+    let r = and_parts (nat_eq c.head w.0) (same_atom c.atom w.1) e in ap (λ n. pair n c.atom) (eqb-true c.head w.0 r.0) ∙ ap (pair w.0) (atom_is c.atom w.1 r.1)
 
 is_head_atom : (c : Case) (w : HeadAtom) → head_atom c ≡ w → same_head_atom c w ≡ true
-is_head_atom c w e = subst (λ (v : HeadAtom). same_head_atom c v ≡ true) e (both_true (nat_eq c.head c.head) (same_atom c.atom c.atom) (eq-eqb c.head c.head refl) (atom_same c.atom))
+is_head_atom c w e = subst (λ (v : HeadAtom). same_head_atom c v ≡ true) e (and_from (nat_eq c.head c.head) (same_atom c.atom c.atom) (eq-eqb c.head c.head refl) (atom_same c.atom))
 
 -- What an answer says: nothing is broken where it is none, and else what is.
 
@@ -330,14 +318,14 @@ module _ (E : Definitions) (gs : List Goal) (g : Goal) where
   empty_rule : (o : Option ℕ) → empty_stands E g o ≡ true → EmptyRule E g o
   empty_rule None e = not_true (can_be_empty E g.left) e
   empty_rule (Some n) e =
-      let r = both (can_be_empty E g.left) (right_is_empty E (numbered g.rights n)) e in
+      let r = and_parts (can_be_empty E g.left) (right_is_empty E (numbered g.rights n)) e in
       let t = right_there (numbered g.rights n) r.1 in
       (r.0, t.0, t.1, t.2)
 
   rule_empty : (o : Option ℕ) → EmptyRule E g o → empty_stands E g o ≡ true
   rule_empty None r = true_not (can_be_empty E g.left) (λ e. cc)
   rule_empty (Some n) r =
-      both_true (can_be_empty E g.left) (right_is_empty E (numbered g.rights n)) r.0 (subst (λ (o : Option Tree). right_is_empty E o ≡ true) (sym r.2) r.3)
+      and_from (can_be_empty E g.left) (right_is_empty E (numbered g.rights n)) r.0 (subst (λ (o : Option Tree). right_is_empty E o ≡ true) (sym r.2) r.3)
 
 module _ (E : Definitions) (gs : List Goal) where
   goal_says : (l : Lined) → SaysAt (KeepsRules E gs l.goal) (GoalBreach E gs l) (wrong_goal E gs l)

@@ -5,6 +5,7 @@ use Rattle.std.specs.Prelude.{codes}
 use Rattle.xd_doc.specs.Document.{Document, empty, text, element, join, is_proper, size}
 use Rattle.xd_doc.specs.Word.{is_word}
 use Rattle.xd_doc.specs.Classes.{LabelClass}
+use Rattle.xd_doc.proofs.Bools.{and_parts}
 use Rattle.xd_syntax.specs.Words.{any_word}
 use Rattle.xd_syntax.specs.Tree.{Tree, Empty, Name, Elem, Star, Plus, Definitions}
 use Rattle.xd_syntax.specs.Placed.{Empty_at, Name_at, Star_at, Plus_at}
@@ -17,7 +18,6 @@ use Rattle.xd_meaning.specs.Meaning.{Done, meaning}
 use Rattle.xd_laws.specs.LineSamples.{at_place, one, leaf_at, x_variable as x, fault_line, warning_line, some_from_any, endless_type, SampleLines}
 use Rattle.xd_laws.proofs.OneLines.{empty_least, first_alone, no_such_line}
 use Rattle.xd_laws.proofs.TelephoneSamples.{whole_has_lines, without_last_has_lines, exchanged_has_lines}
-use Rattle.xd_laws.proofs.WordLists.{both}
 use Rattle.xd_laws.proofs.FitsLaws.{element_only, plus_only, star_only, defined_name}
 
 -- an element is not empty
@@ -156,7 +156,7 @@ no_proper_misfit : (d : Document) → is_proper d ≡ true →
 no_proper_misfit empty p m = m.0
 no_proper_misfit (text s r) p m = m.0
 no_proper_misfit (element l c r) p m =
-    let w : is_word l ≡ true = (both (is_word l) (is_proper c && is_proper r) p).0 in
+    let w : is_word l ≡ true = (and_parts (is_word l) (is_proper c && is_proper r) p).0 in
     let e : is_word digit ≡ true = subst (λ k. is_word k ≡ true) (m.0).0 w in
     let f : false ≡ true = e in cc
 

@@ -1,5 +1,5 @@
 -- Documents joined and measured.
-use Rattle.std.proofs.Common.{◌≡◌, ◌<◌, ◌≤◌, arith, true, refl, ap}
+use Rattle.std.proofs.Common.{◌≡◌, ◌<◌, ◌≤◌, arith, true, refl}
 use Rattle.xd_doc.specs.Document.{Document, empty, text, element, join, has_item}
 use Rattle.xd_syntax.specs.Ways.{item_count}
 
@@ -18,16 +18,6 @@ pub has : (d : Document) → HasItem d → has_item d ≡ true
 has empty h = absurd h
 has (text s d) h = refl
 has (element l c d) h = refl
-
-pub join_empty-right : (d : Document) → join d empty ≡ d
-join_empty-right empty = refl
-join_empty-right (text s d) = ap (text s) (join_empty-right d)
-join_empty-right (element l c d) = ap (element l c) (join_empty-right d)
-
-pub join_assoc : (a b c : Document) → join (join a b) c ≡ join a (join b c)
-join_assoc empty b c = refl
-join_assoc (text s a) b c = ap (text s) (join_assoc a b c)
-join_assoc (element l k a) b c = ap (element l k) (join_assoc a b c)
 
 pub item_count_le : (a b : Document) → item_count b ≤ item_count (join a b)
 item_count_le empty b = omega arith

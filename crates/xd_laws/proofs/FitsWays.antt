@@ -2,10 +2,11 @@
 use Rattle.std.proofs.Common.{◌≡◌, ℕ, suc, zero, ◌+◌, ◌<◌, ◌≤◌, ltb, ltb-true, lt-ltb, arith, Bool, true, false, cond, List, [], ◌∷◌, ◌++◌, map, flat_map, Some, refl, ap, sym, subst, ◌∙◌, inl}
 use Rattle.xd_doc.specs.Document.{Document, empty, text, element, join}
 use Rattle.xd_doc.specs.Classes.{LabelClass, class_has}
+use Rattle.xd_doc.proofs.Joins.{join_empty-right, join_assoc}
 use Rattle.xd_syntax.specs.Tree.{Tree, Name, Definitions, body}
 use Rattle.xd_syntax.specs.Fits.{Fits}
 use Rattle.xd_syntax.specs.Ways.{Way, no_item_way, then_way, in_turn, item_count, turns, repetition, is_whole, element_ways, binding, ways_within, Among}
-use Rattle.xd_laws.proofs.Documents.{HasItem, filled, join_assoc, join_empty-right, item_count_some}
+use Rattle.xd_laws.proofs.Documents.{HasItem, filled, item_count_some}
 use Rattle.xd_syntax.specs.Fits as F
 use Rattle.xd_syntax.proofs.Members.{append_left, append_right, map_mem, flat_mem, flat_same}
 
@@ -39,7 +40,7 @@ turns_fuel V (suc k) (suc j) d p q =
     (λ v m. cond_same (ltb (item_count v.rest) (item_count d)) _ _ (λ t. let l = ltb-true _ _ t in
     ap (map (then_way v)) (turns_fuel V k j v.rest (omega arith) (omega arith)))))
 
-cond_in : {A : Type 0} (b : Bool) (x : A) (xs : List A) → b ≡ true → Among x xs → Among x (cond b xs [])
+pub cond_in : {A : Type 0} (b : Bool) (x : A) (xs : List A) → b ≡ true → Among x xs → Among x (cond b xs [])
 cond_in true x xs e h = h
 cond_in false x xs e h = cc
 

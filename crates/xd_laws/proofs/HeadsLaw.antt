@@ -1,7 +1,10 @@
 -- a document that isn't empty fits exactly where it begins as one of the heads
-use Rattle.std.proofs.Common.{◌≡◌, ℕ, suc, zero, ◌+◌, ◌≤◌, arith, Bool, true, false, cond, ◌||◌, ◌&&◌, ◌⊎◌, List, [], ◌∷◌, ◌++◌, map, length, Option, Some, None, refl, ap, sym, subst, ◌∙◌, inl, inr}
+use Rattle.std.proofs.Common.{◌≡◌, ℕ, suc, zero, ◌+◌, ◌≤◌, arith, Bool, true, cond, List, [], ◌∷◌, ◌++◌, map, length, Option, Some, None, refl, ap, sym, subst, ◌∙◌, inl, inr}
+use Rattle.std.proofs.lemmas.Bool.{and_from}
 use Rattle.xd_doc.specs.Document.{Document, empty, text, element, join}
 use Rattle.xd_doc.specs.Classes.{LabelClass, TextClass, class_has}
+use Rattle.xd_doc.proofs.Bools.{and_parts, or_cases, or_true}
+use Rattle.xd_doc.proofs.Joins.{join_empty-right, join_assoc, joined_none}
 use Rattle.xd_syntax.specs.Tree.{Tree, Empty, Text, Words, Name, Elem, Seq, Alt, Star, Plus, Opt, Val, Definitions, body, seq_of}
 use Rattle.xd_syntax.specs.Fits.{Fits, Split, empty_by}
 use Rattle.xd_syntax.specs.Ways.{Among}
@@ -9,11 +12,12 @@ use Rattle.xd_laws.specs.Guarded.{Front, one, Guarded, Defined}
 use Rattle.xd_meaning.specs.CanBeEmpty.{empty_definition, empty_name, can_be_empty}
 use Rattle.xd_meaning.specs.Heads.{Head, element_in, text_in, pieces, followed_by, with_behind, heads_by, heads_of_definition, heads_of_name, heads, all_texts}
 use Rattle.xd_meaning.specs.HeadBegins.{Begins}
-use Rattle.xd_laws.proofs.Documents.{HasItem, filled, has, join_assoc, join_empty-right}
+use Rattle.xd_laws.proofs.Documents.{HasItem, filled, has}
 use Rattle.xd_syntax.specs.Fits as F
 use Rattle.xd_laws.specs.Guarded as R
 use Rattle.xd_syntax.proofs.Members.{mem_append, append_left, append_right, mem_map, map_mem, cond_true}
 use Rattle.xd_laws.proofs.Unfoldings.{Trail, trail_short}
+use Rattle.xd_laws.proofs.FitsWays.{cond_in}
 
 abbrev FitsAll : Definitions → List Tree → Document → Type 0
 FitsAll E [] d = d ≡ empty
@@ -174,14 +178,6 @@ name_back E Z right zero x h d m p = absurd m
 name_back E Z right (suc n) x h d m p =
     body_back E (heads_by Z (heads_of_name Z E n)) x (back_by E Z right (heads_of_name Z E n) (name_back E Z right n)) (body E x) refl h d m p
 
-and_parts : (a b : Bool) → (a && b) ≡ true → (a ≡ true) × (b ≡ true)
-and_parts true b h = (refl, h)
-and_parts false b h = cc
-
-or_parts : (a b : Bool) → (a || b) ≡ true → (a ≡ true) ⊎ (b ≡ true)
-or_parts true b h = inl refl
-or_parts false b h = inr h
-
 empty_right_by : (E : Definitions) (N : List ℕ → Bool) → ((x : List ℕ) → N x ≡ true → Fits E (Name x) empty) → (T : Tree) → empty_by N T ≡ true → Fits E T empty
 empty_right_by E N k Empty h = F.fits_empty
 empty_right_by E N k Text h = cc
@@ -189,7 +185,7 @@ empty_right_by E N k (Words w) h = cc
 empty_right_by E N k (Name x) h = k x h
 empty_right_by E N k (Elem c T) h = cc
 empty_right_by E N k (Seq T U) h = let r = and_parts _ _ h in F.fits_seq empty empty refl (empty_right_by E N k T r.0) (empty_right_by E N k U r.1)
-empty_right_by E N k (Alt T U) h = elim (or_parts _ _ h) [ inl a ↦ F.fits_left (empty_right_by E N k T a) | inr b ↦ F.fits_right (empty_right_by E N k U b) ]
+empty_right_by E N k (Alt T U) h = elim (or_cases _ _ h) [ inl a ↦ F.fits_left (empty_right_by E N k T a) | inr b ↦ F.fits_right (empty_right_by E N k U b) ]
 empty_right_by E N k (Star T) h = F.fits_no_turn
 empty_right_by E N k (Plus T) h = F.fits_plus empty empty refl (empty_right_by E N k T h) F.fits_no_turn
 empty_right_by E N k (Opt T) h = F.fits_absent
@@ -212,24 +208,9 @@ pub head_fits : (E : Definitions) (T : Tree) (h : Head) (d : Document) → Among
 unfolding heads
 head_fits E T h d m p = back_by E (can_be_empty E) (empty_right E) (heads_of_name (can_be_empty E) E (length E)) (name_back E (can_be_empty E) (empty_right E) (length E)) T h d m p
 
--- and in a guarded program what fits is found empty, and begins as some head, when the names on the
--- way form a chain
-join_empty : (a b : Document) → join a b ≡ empty → (a ≡ empty) × (b ≡ empty)
-join_empty empty b e = (refl, e)
-join_empty (text s a) b e = cc
-join_empty (element l k a) b e = cc
-
-or-true : (b : Bool) → (b || true) ≡ true
-or-true true = refl
-or-true false = refl
-
 one_round : (E : Definitions) (x : List ℕ) (T : Tree) → body E x ≡ Some T → (n : ℕ) → 1 ≤ n → ((k : ℕ) → n ≡ suc k → empty_by (empty_name E k) T ≡ true) → empty_name E n x ≡ true
 one_round E x T q zero l f = absurd (omega arith)
 one_round E x T q (suc k) l f = rw q (f k refl)
-
-and_true : (a b : Bool) → a ≡ true → b ≡ true → (a && b) ≡ true
-and_true true b p q = q
-and_true false b p q = cc
 
 abbrev pub HasHead : Definitions → List Head → Document → Type 0
 HasHead E hs d = (h : Head) × Among h hs × Begins E h d
@@ -238,10 +219,6 @@ one_more : (E : Definitions) (Z : Tree → Bool) (x : List ℕ) (T : Tree) (d : 
     ((k : ℕ) → n ≡ suc k → HasHead E (heads_by Z (heads_of_name Z E k) T) d) → HasHead E (heads_of_name Z E n x) d
 one_more E Z x T d q zero l f = absurd (omega arith)
 one_more E Z x T d q (suc k) l f = rw q (f k refl)
-
-cond_in : {A : Type 0} (b : Bool) (x : A) (xs : List A) → b ≡ true → Among x xs → Among x (cond b xs [])
-cond_in true x xs e h = h
-cond_in false x xs e h = cc
 
 -- the head of a part that isn't empty, or of what stands followed_by an empty one
 seq_head : (E : Definitions) (U : Tree) (hs ks : List Head) (z : Bool) (a b d : Document) → join a b ≡ d → HasItem d → Fits E U b →
@@ -273,14 +250,14 @@ module _ (E : Definitions) (guarded : Guarded E) where
       let w = trail_short E guarded (x ∷ V) (t x R.here (T, q)) in
       one_round E x T q n (omega arith) (λ k i. empty_found k (x ∷ V) (λ y z def. (def, (T, q, z), t x R.here (T, q))) (omega arith) f e)
   empty_found n V t l (F.fits_seq {T} {U} {d} a b q f g) e =
-      let j = join_empty a b (q ∙ e) in
-      and_true _ _ (empty_found n V (λ y k. t y (R.seq_first k)) l f j.0)
+      let j = joined_none a b (q ∙ e) in
+      and_from _ _ (empty_found n V (λ y k. t y (R.seq_first k)) l f j.0)
       (empty_found n V (λ y k. t y (R.seq_next (subst (Fits E T) j.0 f) k)) l g j.1)
   empty_found n V t l (F.fits_left f) e = rw (empty_found n V (λ y k. t y (R.alt_left k)) l f e)
-  empty_found n V t l (F.fits_right {T} f) e = rw (empty_found n V (λ y k. t y (R.alt_right k)) l f e) (or-true _)
+  empty_found n V t l (F.fits_right {T} f) e = rw (empty_found n V (λ y k. t y (R.alt_right k)) l f e) (or_true _)
   empty_found n V t l F.fits_no_turn e = refl
   empty_found n V t l (F.fits_turn a b q s f g) e = refl
-  empty_found n V t l (F.fits_plus a b q f g) e = empty_found n V (λ y k. t y (R.plus k)) l f (join_empty a b (q ∙ e)).0
+  empty_found n V t l (F.fits_plus a b q f g) e = empty_found n V (λ y k. t y (R.plus k)) l f (joined_none a b (q ∙ e)).0
   empty_found n V t l F.fits_absent e = refl
   empty_found n V t l (F.fits_present f) e = refl
   empty_found n V t l (F.fits_val f) e = empty_found n V (λ y k. t y (R.val k)) l f e

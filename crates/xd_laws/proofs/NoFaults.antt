@@ -3,6 +3,7 @@ use Rattle.std.proofs.Common.{◌≡◌, ℕ, Bool, true, false, cond, inl, inr,
 use Rattle.std.specs.Str.{bytes_eq}
 use Rattle.xd_base.specs.declared.Place.{Place}
 use Rattle.xd_doc.specs.Document.{Document, is_proper, size}
+use Rattle.xd_doc.proofs.Lists.{append_none_parts}
 use Rattle.xd_syntax.specs.Ways.{Among}
 use Rattle.xd_syntax.specs.Program.{TypeDefinition, Parameter, FunctionDefinition, ProgramTree, function_of}
 use Rattle.xd_syntax.specs.NameFaults.{duplicate_names, unknown_types, known_types, expression_faults, function_faults, name_faults}
@@ -10,7 +11,7 @@ use Rattle.xd_syntax.specs.Order.{put_in, ordered_after}
 use Rattle.xd_syntax.specs.CheckFaults.{Line, LineKind, line_precedes, LineWhere, LinesOfFunction, LinesOfFunctions, is_warning, faults_among, IsAccepted}
 use Rattle.xd_syntax.specs.declared.fault.Fault.{Fault}
 use Rattle.xd_laws.proofs.SoundGuarded.{in_order_none}
-use Rattle.xd_laws.proofs.WordLists.{nothing_both, nothing_each}
+use Rattle.xd_laws.proofs.WordLists.{nothing_each}
 
 -- Lines that are warnings.
 
@@ -92,7 +93,7 @@ body_names P e f m =
     let types : List Fault = flat_map (λ (t : TypeDefinition). unknown_types (known_types P) t.body) P.types in
     let all : List Fault = flat_map (function_faults P) P.functions in
     let a = in_order_none (duplicate_names P ++ types ++ all) e in
-    let b = nothing_each (function_faults P) P.functions (nothing_both (duplicate_names P ++ types) all a).1 f m in
+    let b = nothing_each (function_faults P) P.functions (append_none_parts (duplicate_names P ++ types) all a).1 f m in
     let declared : List Fault = flat_map (λ (q : Parameter). unknown_types (known_types P) q.declared) f.parameters in
     let body : List Fault = expression_faults P (map (λ (q : Parameter). q.name) f.parameters) f.body in
-    (nothing_both (declared ++ unknown_types (known_types P) f.declared) body b).1
+    (append_none_parts (declared ++ unknown_types (known_types P) f.declared) body b).1

@@ -4,6 +4,7 @@ use Rattle.std.specs.Prelude.{option_map}
 use Rattle.std.specs.List.{filter}
 use Rattle.std.specs.Str.{bytes_eq}
 use Rattle.std.proofs.lemmas.Slice.Eq.{bytes_eq-Decides}
+use Rattle.std.proofs.lemmas.Bool.{or_left, or_right}
 use Rattle.xd_doc.specs.Document.{Document}
 use Rattle.xd_syntax.specs.Words.{has_word}
 use Rattle.xd_syntax.specs.Tree.{occurrences}
@@ -17,7 +18,7 @@ use Rattle.xd_meaning.specs.Bindings.{each_once, variables_of, bound_to, binding
 use Rattle.xd_syntax.specs.Program.{names_of}
 use Rattle.xd_laws.specs.Laws.{BindingsAgree, BindingsAreInOrder}
 use Rattle.xd_laws.proofs.Unfoldings.{same_word_eq}
-use Rattle.xd_laws.proofs.WordLists.{either, or_left, or_right}
+use Rattle.xd_laws.proofs.WordLists.{either}
 use Rattle.xd_laws.proofs.WayShapes.{IsWay, way_shape}
 use Rattle.xd_laws.proofs.BoundVariables.{binds, binds_some, looked_up-binds, bound_in}
 use Rattle.xd_laws.proofs.LinearPatterns.{left_without, binds_variables}
@@ -25,7 +26,7 @@ use Rattle.xd_laws.proofs.SuitsLemmas.{bind_nothing}
 use Rattle.xd_laws.proofs.DecisionLemmas.{first_way}
 
 -- a word is in the list of each once exactly where it is in the list
-once_has : (xs : List (List ℕ)) (x : List ℕ) → has_word xs x ≡ true → has_word (each_once xs) x ≡ true
+pub once_has : (xs : List (List ℕ)) (x : List ℕ) → has_word xs x ≡ true → has_word (each_once xs) x ≡ true
 once_has [] x h = h
 once_has (y ∷ ys) x h =
     elim (either (bytes_eq y x) (has_word ys x) h) [

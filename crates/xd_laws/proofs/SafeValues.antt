@@ -2,6 +2,8 @@
 use Rattle.std.proofs.Common.{◌≡◌, ℕ, arith, Bool, true, false, not, nat_eq, inl, inr, List, [], ◌∷◌, ◌++◌, length, Option, Some, None, refl, sym, subst, ◌∙◌}
 use Rattle.xd_base.specs.declared.Place.{Place}
 use Rattle.xd_doc.specs.Document.{Document, empty, element, join, is_proper, size}
+use Rattle.xd_doc.proofs.Numbers.{same_number}
+use Rattle.xd_doc.proofs.Lists.{append_none_parts}
 use Rattle.xd_syntax.specs.Words.{has_word}
 use Rattle.xd_syntax.specs.Placed.{PlacedTree, unplaced, variables}
 use Rattle.xd_meaning.specs.FirstMatch.{first}
@@ -17,7 +19,6 @@ use Rattle.xd_syntax.specs.CheckFaults.{Line, wrong_argument, not_exhaustive, pa
 use Rattle.xd_meaning.specs.Meaning.{Outcome, Done, Spent, Stuck, Environment, looked_up, and_then, done_or_stuck, or_else, value_by, values_by, chosen_by}
 use Rattle.xd_laws.specs.Safety.{Meets, IsValueOf, AreValuesOf, Suits, IsAllowed}
 use Rattle.xd_syntax.specs.declared.fault.FaultKind.{FaultKind}
-use Rattle.xd_laws.proofs.WordLists.{nothing_both}
 use Rattle.xd_laws.proofs.BoundVariables.{proper_element, join_proper}
 use Rattle.xd_laws.proofs.SoundGuarded.{guarded}
 use Rattle.xd_laws.proofs.DecisionLemmas.{first_way, takes_not, fits_not_not}
@@ -46,13 +47,10 @@ passed false p k e = absurd (cc)
 variable_meets : (R : Document → Type 0) (o : Option Document) (n : ℕ) (d : Document) → o ≡ Some d → R d → Meets R (done_or_stuck o n)
 variable_meets R o n d e r = subst (λ q. Meets R (done_or_stuck q n)) (sym e) r
 
-same_count : (m n : ℕ) → nat_eq m n ≡ true → m ≡ n
-same_count m n e = grind arith
-
 -- the function of a call without faults
 called : (o : Option FunctionDefinition) (p : Place) (x : List ℕ) (n : ℕ) → call_faults o p x n ≡ [] → (f : FunctionDefinition) × (o ≡ Some f) × (n ≡ length f.parameters)
 called None p x n e = absurd (cc)
-called (Some f) p x n e = (f, refl, same_count n (length f.parameters) (passed (nat_eq n (length f.parameters)) p _ e))
+called (Some f) p x n e = (f, refl, same_number n (length f.parameters) (passed (nat_eq n (length f.parameters)) p _ e))
 
 module _ (P : ProgramTree) (proper : IsProperProgram P) (sound : IsSound P) (C : ℕ → List ℕ → List Document → Outcome Document) (calls : CallsMeet P C) where
   -- the first clause that takes the document, or one of the others
@@ -74,7 +72,7 @@ module _ (P : ProgramTree) (proper : IsProperProgram P) (sound : IsSound P) (C :
       let r = no_faults_of ls l.0 l.1 l.4 q in
       let w = first_way (names_of P) (unplaced Q) d vs h in
       let live : IsLiveIn P S e earlier Q = (d, comes, (w.0, w.1)) in
-      let t = nothing_both (unknown_types (known_types P) Q) (linearity_faults Q) linear in
+      let t = append_none_parts (unknown_types (known_types P) Q) (linearity_faults Q) linear in
       let suits : Suits P (clause_entry e earlier Q ∷ S) (variables Q ++ known) (vs ++ env) =
       subst (λ us. Suits P (clause_entry e earlier Q ∷ S) (variables Q ++ known) (us ++ env)) w.2 (clause_suits P proper S known env s e earlier Q d comes (sym (linearity_same Q) ∙ t.1) w.0 w.1) in
       elim l.2 [
@@ -94,7 +92,7 @@ module _ (P : ProgramTree) (proper : IsProperProgram P) (sound : IsSound P) (C :
         meets_then (IsAllowed P S e) (IsAllowed P S (Tagged p t e)) (value_by (first (names_of P)) C n env e) (λ d m. Done (element t d empty) m)
         (value_meets S known env s n e pe.1 fe ls l q) (λ d m h. (proper_element t d empty pe.0 h.0 refl, (refl, refl, h.1)))
     value_meets S known env s n (Joined p e f) pe fe ls l q =
-        let k = nothing_both (expression_faults P known e) (expression_faults P known f) fe in
+        let k = append_none_parts (expression_faults P known e) (expression_faults P known f) fe in
         let r = no_faults_of ls l.0 l.1 l.4 q in
         meets_then (IsAllowed P S e) (IsAllowed P S (Joined p e f)) (value_by (first (names_of P)) C n env e)
         (λ d m. and_then (value_by (first (names_of P)) C m env f) (λ c j. Done (join d c) j))
@@ -102,7 +100,7 @@ module _ (P : ProgramTree) (proper : IsProperProgram P) (sound : IsSound P) (C :
         (λ d m h. meets_then (IsAllowed P S f) (IsAllowed P S (Joined p e f)) (value_by (first (names_of P)) C m env f) (λ c j. Done (join d c) j)
         (value_meets S known env s m f pe.1 k.1 l.1 l.3 r.1) (λ c j i. (join_proper d c h.0 i.0, (d, c, refl, h.1, i.1))))
     value_meets S known env s n (Called p x es) pe fe ls l q =
-        let k = nothing_both (call_faults (function_of P.functions x) p x (argument_count es)) (argument_faults P known es) fe in
+        let k = append_none_parts (call_faults (function_of P.functions x) p x (argument_count es)) (argument_faults P known es) fe in
         let g = called (function_of P.functions x) p x (argument_count es) k.0 in
         let lines : LinesOfArguments size P S (g.0).parameters es ls = subst (λ o. LinesOfArguments size P S (parameters_of o) es ls) g.1 l in
         meets_then (AreValuesOf (names_of P) (g.0).parameters) (IsAllowed P S (Called p x es)) (values_by (first (names_of P)) C n env es) (λ ds m. C m x ds)
@@ -110,7 +108,7 @@ module _ (P : ProgramTree) (proper : IsProperProgram P) (sound : IsSound P) (C :
         (λ ds m h. meets_more (IsValueOf (names_of P) (g.0).declared) (IsAllowed P S (Called p x es)) (C m x ds) (calls.safe m x g.0 ds g.1 h)
         (λ d v. (v.0, subst (λ o. FitsResult (names_of P) o d) (sym g.1) v.1)))
     value_meets S known env s n (Matched p e cs) pe fe ls l q =
-        let k = nothing_both (expression_faults P known e) (clause_faults P known cs) fe in
+        let k = append_none_parts (expression_faults P known e) (clause_faults P known cs) fe in
         let r = no_faults_of ls l.0 l.1 l.4 q in
         meets_then (IsAllowed P S e) (IsAllowed P S (Matched p e cs)) (value_by (first (names_of P)) C n env e) (λ d m. chosen_by (first (names_of P)) C m env d cs)
         (value_meets S known env s n e pe.0 k.0 l.0 l.2 r.0)
@@ -124,7 +122,7 @@ module _ (P : ProgramTree) (proper : IsProperProgram P) (sound : IsSound P) (C :
     values_meets S known env s n (w ∷ ws) no_argument pe fe c ls l q = absurd (omega arith)
     values_meets S known env s n [] (argument e es) pe fe c ls l q = absurd (omega arith)
     values_meets S known env s n (w ∷ ws) (argument e es) pe fe c ls l q =
-        let k = nothing_both (expression_faults P known e) (argument_faults P known es) fe in
+        let k = append_none_parts (expression_faults P known e) (argument_faults P known es) fe in
         let r = no_faults_of ls l.0 l.1 l.4 q in
         let t = no_faults_of l.1 (l.3).0 (l.3).1 (l.3).4 r.1 in
         let c' : argument_count es ≡ length ws = omega arith in
@@ -149,8 +147,8 @@ module _ (P : ProgramTree) (proper : IsProperProgram P) (sound : IsSound P) (C :
         Meets (λ v. (is_proper v ≡ true) × MayClauses P S e earlier cs v) (chosen_by (first (names_of P)) C n env d cs)
     chosen_meets S known env s n p e earlier no_clause pe fe d comes ls l q = absurd (no_line p not_exhaustive (Comes P S e earlier) ls refl l q d comes.0 comes)
     chosen_meets S known env s n p e earlier (clause Q f cs) pe fe d comes ls l q =
-        let k = nothing_both (pattern_faults (known_types P) Q ++ expression_faults P (variables Q ++ known) f) (clause_faults P known cs) fe in
-        let j = nothing_both (pattern_faults (known_types P) Q) (expression_faults P (variables Q ++ known) f) k.0 in
+        let k = append_none_parts (pattern_faults (known_types P) Q ++ expression_faults P (variables Q ++ known) f) (clause_faults P known cs) fe in
+        let j = append_none_parts (pattern_faults (known_types P) Q) (expression_faults P (variables Q ++ known) f) k.0 in
         clause_meets S known env s n p e earlier Q f cs j.0 d comes ls l q
         (λ env' s' ms m z. value_meets (clause_entry e earlier Q ∷ S) (variables Q ++ known) env' s' n f pe.1 j.1 ms m z)
         (λ comes' ms m z. chosen_meets S known env s n p e (Q ∷ earlier) cs pe.2 k.1 d comes' ms m z)

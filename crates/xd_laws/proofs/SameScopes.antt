@@ -4,6 +4,7 @@ use Rattle.xd_base.specs.declared.Place.{Place}
 use Rattle.xd_doc.specs.Word.{is_word}
 use Rattle.xd_doc.specs.Document.{Document, empty, text, element, is_proper}
 use Rattle.xd_doc.proofs.LeastLemmas.{least_of_part}
+use Rattle.xd_doc.proofs.Bools.{and_parts}
 use Rattle.xd_syntax.specs.Words.{has_word}
 use Rattle.xd_syntax.specs.Tree.{Definitions}
 use Rattle.xd_syntax.specs.Placed.{PlacedTree, variables}
@@ -13,7 +14,6 @@ use Rattle.xd_syntax.specs.Program.{Parameter, ProgramTree, names_of, function_o
 use Rattle.xd_syntax.specs.May.{Scope, clause_entry, Allowance, IsTagged, IsLive, MayBind, WhereTrue, in_clause, MayBy, MayByClauses, Allows, May}
 use Rattle.xd_syntax.specs.CheckFaults.{Line, LineKind, LineWhere, IsProperWith, Both, Misfits, wrong_argument, not_exhaustive, parameters_of, Comes, IsLiveIn, LinesOf, LinesOfArguments, LinesOfClauses}
 use Rattle.xd_laws.specs.Scopes.{AllowTheSame, MoreIsAllowed, ScopesDecideMay, ScopesDecideLines}
-use Rattle.xd_laws.proofs.WordLists.{both}
 use Rattle.xd_laws.proofs.BoundVariables.{proper_joined}
 
 -- each proper document that meets the first fact meets the second
@@ -27,7 +27,7 @@ tagged_within : (l : List ℕ) (A B : Document → Type 0) → Implies A B → I
 tagged_within l A B h empty p m = absurd m
 tagged_within l A B h (text s r) p m = absurd m
 tagged_within l A B h (element k c r) p m =
-    let q = both (is_word k) (is_proper c && is_proper r) p in (m.0, m.1, h c (both (is_proper c) (is_proper r) q.1).0 m.2)
+    let q = and_parts (is_word k) (is_proper c && is_proper r) p in (m.0, m.1, h c (and_parts (is_proper c) (is_proper r) q.1).0 m.2)
 
 split_within : (A B F G : Document → Type 0) → Implies A B → Implies F G → Implies (Split A F) (Split B G)
 split_within A B F G h k d p m =
@@ -78,7 +78,7 @@ turned P S Z h x d p = ((h x d p).1, (h x d p).0)
 pub scopes_decide_may : ScopesDecideMay
 scopes_decide_may P S Z h e d p = (first_way P S Z h e d p, first_way P Z S (turned P S Z h) e d p)
 
--- a clause hides the same in both
+-- a clause hides the same in and_parts
 same_in_clause : (P : ProgramTree) (S Z : Scope) → AllowTheSame P S Z → (e : Expression) (earlier : List PlacedTree) (Q : PlacedTree) →
     AllowTheSame P (clause_entry e earlier Q ∷ S) (clause_entry e earlier Q ∷ Z)
 same_in_clause P S Z h e earlier Q x d p = (

@@ -2,6 +2,7 @@
 use Rattle.std.proofs.Common.{◌≡◌, ℕ, ◌+◌, arith, Bool, true, false, cond, List, [], ◌∷◌, ◌++◌, map, length, length-append, Some, refl, ap, sym, subst, inl, inr}
 use Rattle.std.specs.Str.{bytes_eq}
 use Rattle.std.proofs.lemmas.List.{length-map}
+use Rattle.xd_doc.proofs.Lists.{none_of}
 use Rattle.xd_syntax.specs.Words.{any_word}
 use Rattle.xd_syntax.specs.Tree.{Tree, Definitions, body, any_type}
 use Rattle.xd_syntax.specs.Placed.{PlacedTree, Empty_at, Text_at, Words_at, Name_at, Elem_at, Seq_at, Alt_at, Star_at, Plus_at, Opt_at, Val_at, unplaced}
@@ -26,10 +27,6 @@ ordered_after-length : (done fs : List Fault) → length (ordered_after precedes
 ordered_after-length done [] = omega arith
 ordered_after-length done (f ∷ fs) =
     let i = ordered_after-length (put_in precedes f done) fs in let j = put_in-length f done in omega arith
-
-none_of : {A : Type 0} (xs : List A) → length xs ≡ 0 → xs ≡ []
-none_of [] e = refl
-none_of (x ∷ xs) e = absurd (omega arith)
 
 -- where nothing is listed there was nothing to put in order
 pub in_order_none : (fs : List Fault) → in_order fs ≡ [] → fs ≡ []

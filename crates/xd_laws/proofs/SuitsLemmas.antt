@@ -3,6 +3,7 @@ use Rattle.std.proofs.Common.{◌≡◌, ℕ, Bool, true, false, cond, ◌||◌,
 use Rattle.std.specs.Str.{bytes_eq}
 use Rattle.std.specs.List.{AllByRecursion}
 use Rattle.std.specs.List.Sorted.{IsStrictlySortedBy}
+use Rattle.std.proofs.lemmas.Bool.{false_from_ne_true}
 use Rattle.xd_doc.specs.Document.{Document, is_proper}
 use Rattle.xd_syntax.specs.Words.{has_word, any_word}
 use Rattle.xd_syntax.specs.Tree.{Tree, body, any_type}
@@ -50,10 +51,6 @@ where_true b A B e a = subst (λ c. WhereTrue c A B) (sym e) a
 where_false : (b : Bool) (A B : Type 0) → b ≡ false → B → WhereTrue b A B
 where_false b A B e a = subst (λ c. WhereTrue c A B) (sym e) a
 
-not_true : (b : Bool) → (b ≡ true → ⊥) → b ≡ false
-not_true true h = absurd (h refl)
-not_true false h = refl
-
 -- a way of a linear pattern, on a document that comes to the clause
 pub clause_suits : (P : ProgramTree) → IsProperProgram P → (S : Scope) (known : List (List ℕ)) (env : Environment) → Suits P S known env →
     (e : Expression) (earlier : List PlacedTree) (Q : PlacedTree) (d : Document) → Comes P S e earlier d → not_linear false [] [] false Q ≡ [] →
@@ -83,7 +80,7 @@ clause_suits P proper S known env s e earlier Q d comes linear w whole = record 
           | inr b ↦
               let r = s.allowed x c b.1 in
               let n : has_word (variables Q) x ≡ false =
-              not_true (has_word (variables Q) x) (λ i. let j : true ≡ false = sym (binds_variables (names_of P) Q d w linear shape x i) ∙ b.0 in cc) in
+              false_from_ne_true (has_word (variables Q) x) (λ i. let j : true ≡ false = sym (binds_variables (names_of P) Q d w linear shape x i) ∙ b.0 in cc) in
               (r.0, where_false (has_word (variables Q) x) _ _ n r.1)
         ]
 

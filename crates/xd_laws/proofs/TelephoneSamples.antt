@@ -9,6 +9,7 @@ use Rattle.std.specs.List.Sorted.{IsStrictlySortedBy}
 use Rattle.xd_doc.specs.Word.{is_word}
 use Rattle.xd_doc.specs.Classes.{class_has}
 use Rattle.xd_doc.specs.ClassForms.{IsClass}
+use Rattle.xd_doc.proofs.Joins.{join_empty-right}
 use Rattle.xd_syntax.specs.Words.{any_word}
 use Rattle.xd_syntax.specs.Tree.{Tree, Empty, Text, Name, Elem, Seq, Opt, Val, Definitions, body}
 use Rattle.xd_syntax.specs.Placed.{PlacedTree, Empty_at, unplaced}
@@ -23,7 +24,6 @@ use Rattle.xd_syntax.specs.May.{Scope, clause_entry, Arrives, MayBind, May, para
 use Rattle.xd_syntax.specs.CheckFaults.{Line, wrong_argument, not_exhaustive, Misfits, IsLiveIn, LinesOf, LinesOfClauses, lines_in_order, AreLines, IsAccepted, IsProperWith, LineWhere}
 use Rattle.xd_laws.proofs.Unfoldings.{same_word_eq, fits_takes}
 use Rattle.xd_laws.proofs.SoundGuarded.{guarded}
-use Rattle.xd_laws.proofs.Documents.{join_empty-right}
 use Rattle.xd_laws.proofs.FitsLaws.{any_fits, element_only, text_only, seq_only, opt_only, star_only, defined_name}
 use Rattle.xd_laws.proofs.WaysFit.{whole_none}
 use Rattle.xd_laws.proofs.WayShapes.{IsWay, way_text, way_name, way_elem, way_seq, way_val, way_shape, way_join}

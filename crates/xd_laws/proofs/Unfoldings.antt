@@ -3,11 +3,12 @@ use Rattle.std.proofs.Common.{◌≡◌, ℕ, suc, zero, ◌+◌, ◌*◌, ◌�
 use Rattle.std.proofs.lemmas.List.{length-map}
 use Rattle.std.proofs.lemmas.Slice.Eq.{bytes_eq-Decides}
 use Rattle.xd_doc.specs.Document.{Document, empty, text, element, join, size}
+use Rattle.xd_doc.proofs.Joins.{join_empty-right}
 use Rattle.xd_syntax.specs.Tree.{Tree, Empty, Text, Words, Name, Elem, Seq, Alt, Star, Plus, Opt, Val, Definitions, body}
 use Rattle.xd_syntax.specs.Fits.{Fits}
 use Rattle.xd_syntax.specs.Ways.{Way, no_item_way, then_way, in_turn, item_count, turns, repetition, is_whole, ways_by, ways_of_definition, ways_of_name, ways_within, unfoldings, Takes, is_whole, unfoldings, Among}
 use Rattle.xd_laws.specs.Guarded.{Front, Step, Path, one, more, Guarded, Defined}
-use Rattle.xd_laws.proofs.Documents.{HasItem, join_empty-right}
+use Rattle.xd_laws.proofs.Documents.{HasItem}
 use Rattle.std.specs.Str.{bytes_eq}
 use Rattle.xd_laws.specs.Guarded as R
 use Rattle.xd_syntax.proofs.Members.{flat_same}

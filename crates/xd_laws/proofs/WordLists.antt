@@ -1,34 +1,21 @@
 -- Words in lists, and lists of nothing.
-use Rattle.std.proofs.Common.{◌≡◌, ℕ, Bool, true, false, cond, ◌||◌, ◌&&◌, ◌⊎◌, inl, inr, List, [], ◌∷◌, ◌++◌, flat_map, refl, ap, sym, subst, ◌∙◌}
+use Rattle.std.proofs.Common.{◌≡◌, ℕ, Bool, true, false, cond, ◌||◌, ◌⊎◌, inl, inr, List, [], ◌∷◌, ◌++◌, flat_map, refl, ap, sym, subst, ◌∙◌}
 use Rattle.std.specs.Str.{bytes_eq}
 use Rattle.std.specs.List.{filter}
+use Rattle.std.proofs.lemmas.Bool.{or_left, or_right}
+use Rattle.xd_doc.proofs.Lists.{append_none_parts}
 use Rattle.xd_syntax.specs.Words.{has_word}
 use Rattle.xd_syntax.specs.Ways.{Among}
 use Rattle.xd_laws.proofs.Unfoldings.{same_word_eq}
-
-pub both : (a b : Bool) → (a && b) ≡ true → (a ≡ true) × (b ≡ true)
-both true b e = (refl, e)
-both false b e = cc
 
 pub either : (a b : Bool) → (a || b) ≡ true → (a ≡ true) ⊎ ((a ≡ false) × (b ≡ true))
 either true b e = inl refl
 either false b e = inr (refl, e)
 
-pub or_left : (a b : Bool) → a ≡ true → (a || b) ≡ true
-or_left a b e = rw e refl
-
-pub or_right : (a b : Bool) → b ≡ true → (a || b) ≡ true
-or_right true b e = refl
-or_right false b e = e
-
-pub nothing_both : {A : Type 0} (xs ys : List A) → xs ++ ys ≡ [] → (xs ≡ []) × (ys ≡ [])
-nothing_both [] ys e = (refl, e)
-nothing_both (x ∷ xs) ys e = absurd (cc)
-
 pub nothing_each : {A B : Type 0} (f : A → List B) (xs : List A) → flat_map f xs ≡ [] → (x : A) → Among x xs → f x ≡ []
 nothing_each f [] e x m = absurd m
-nothing_each f (y ∷ ys) e x (inl i) = ap f (sym i) ∙ (nothing_both (f y) (flat_map f ys) e).0
-nothing_each f (y ∷ ys) e x (inr m) = nothing_each f ys (nothing_both (f y) (flat_map f ys) e).1 x m
+nothing_each f (y ∷ ys) e x (inl i) = ap f (sym i) ∙ (append_none_parts (f y) (flat_map f ys) e).0
+nothing_each f (y ∷ ys) e x (inr m) = nothing_each f ys (append_none_parts (f y) (flat_map f ys) e).1 x m
 
 pub has_word_left : (xs ys : List (List ℕ)) (x : List ℕ) → has_word xs x ≡ true → has_word (xs ++ ys) x ≡ true
 has_word_left [] ys x h = absurd (cc)

@@ -43,10 +43,10 @@ word_whole (b ∷ bs) rest h =
     let parts : are_word_parts bs ≡ true = (and_parts (is_word_part b) (are_word_parts bs) h).1 in
     rw (take_while-cons, part) (ap (λ (xs : List ℕ). b ∷ xs) (word_whole bs rest parts))
 
-start_no_blank : (b : ℕ) → is_word_start b ≡ true → is_blank b ≡ false
+pub start_no_blank : (b : ℕ) → is_word_start b ≡ true → is_blank b ≡ false
 start_no_blank b h = grind (arith, nat_tests)
 
-start_no_paren : (b : ℕ) → is_word_start b ≡ true → (b == 40) ≡ false
+pub start_no_paren : (b : ℕ) → is_word_start b ≡ true → (b == 40) ≡ false
 start_no_paren b h = grind (arith, nat_tests)
 
 of_label : (bs : List ℕ) (n : ℕ) → slice_index bs n ≡ 91 → of_word bs n ≡ fronts.Token kinds.Label (n + 1)

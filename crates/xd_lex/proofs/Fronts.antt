@@ -75,7 +75,7 @@ Fits (fronts.Gap n) bs = Reaches bs n
 Fits (fronts.Token k n) bs = Reaches bs n × (is_last k ≡ false) × IsSpelling k (take n bs)
 Fits (fronts.Fault f) bs = Unit {0}
 
-blank_ascii : (b : ℕ) → is_blank b ≡ true → b < 128
+pub blank_ascii : (b : ℕ) → is_blank b ≡ true → b < 128
 blank_ascii b h = grind (arith, nat_tests)
 
 pub word_ascii : (b : ℕ) → is_word_part b ≡ true → b < 128

@@ -3,7 +3,6 @@ use Rattle.std.proofs.Common.{◌≡◌, ℕ, suc, ◌+◌, true, false, List, [
 use Rattle.std.specs.Prelude.{◌==◌, slice_index}
 use Rattle.std.specs.List.{take_while}
 use Rattle.std.proofs.lemmas.List.Sums.{take_while-cons}
-use Rattle.std.proofs.lemmas.Bool.Decides.{nat_tests}
 use Rattle.std.proofs.lemmas.Bool.{and_parts}
 use Rattle.xd_base.specs.declared.Place.{Place}
 use Rattle.xd_doc.specs.Word.{is_word, is_word_start, is_word_part, are_word_parts}
@@ -12,7 +11,7 @@ use Rattle.xd_lex.specs.declared.Kind.TheVariants as kinds
 use Rattle.xd_lex.specs.declared.Front.TheVariants as fronts
 use Rattle.xd_lex.specs.Scan.{is_blank, symbol, of_word, front_of}
 use Rattle.xd_lex.specs.Tokens.{past, tokens_from}
-use Rattle.xd_lex.proofs.Canonical.{token_front, tokens-comma, tokens-bracket_r, tokens-paren_r}
+use Rattle.xd_lex.proofs.Canonical.{token_front, tokens-comma, tokens-bracket_r, tokens-paren_r, start_no_blank, start_no_paren}
 
 -- the token of these bytes, of this kind, stands in front of what follows
 abbrev pub IsToken : Kind → List ℕ → List ℕ → Type 0
@@ -76,12 +75,6 @@ word_whole [] (c ∷ rest) h e = rw (take_while-cons, e) refl
 word_whole (b ∷ bs) rest h e =
     let r = and_parts (is_word_part b) (are_word_parts bs) h in
     rw (take_while-cons, r.0) (ap (λ xs. b ∷ xs) (word_whole bs rest r.1 e))
-
-start_no_blank : (b : ℕ) → is_word_start b ≡ true → is_blank b ≡ false
-start_no_blank b h = grind (arith, nat_tests)
-
-start_no_paren : (b : ℕ) → is_word_start b ≡ true → (b == 40) ≡ false
-start_no_paren b h = grind (arith, nat_tests)
 
 behind_word : (bs rest : List ℕ) → slice_index (bs ++ rest) (length bs) ≡ get_or rest 0 0
 behind_word [] rest = refl

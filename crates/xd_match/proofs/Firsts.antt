@@ -3,6 +3,8 @@ use Rattle.std.proofs.Common.{ℕ, zero, suc, ◌≡◌, ◌<◌, Bool, true, fa
 use Rattle.std.specs.List.{list_any, Contains}
 use Rattle.xd_doc.specs.Document.{Document, empty, text, element, join}
 use Rattle.xd_doc.specs.Classes.{class_has}
+use Rattle.xd_doc.proofs.Bools.{and_left, and_right}
+use Rattle.xd_doc.proofs.Lists.{same_at}
 use Rattle.xd_auto.specs.declared.auto.State.{State}
 use Rattle.xd_auto.specs.declared.auto.LabelMove.{LabelMove}
 use Rattle.xd_auto.specs.declared.auto.TextMove.{TextMove}
@@ -15,19 +17,6 @@ use Rattle.xd_pattern_runs.specs.Laws.{first_of}
 use Rattle.xd_patterns.specs.Marked.{Marking, no_text_move, no_label_move, with_marks}
 use Rattle.xd_match.specs.First.{first_held, first_run, held_in}
 use Rattle.xd_match.specs.Taking.{IsFirst}
-
-and_first : (x y : Bool) → (x && y) ≡ true → x ≡ true
-and_first true y e = refl
-and_first false y e = absurd (cc)
-
-and_second : (x y : Bool) → (x && y) ≡ true → y ≡ true
-and_second true y e = e
-and_second false y e = absurd (cc)
-
-same_default : {A : Type 0} (xs : List A) (n : ℕ) (d e : A) → n < length xs → get_or xs n d ≡ get_or xs n e
-same_default [] n d e lt = absurd (omega arith)
-same_default (x ∷ xs) zero d e lt = refl
-same_default (x ∷ xs) (suc n) d e lt = same_default xs n d e (omega arith)
 
 runs_some : (a : Automaton) (d : Document) (s : State) → accepts a d s ≡ true → (r : Numbered.Run) × (rs : List Numbered.Run) × (Numbered.runs a d s ≡ r ∷ rs)
 runs_some a d s e = go (Numbered.runs a d s) refl
@@ -100,23 +89,23 @@ module _ (a : Automaton) (k : Marking) where
       let q : TextMove = no_text_move s in
       let m : TextMove = get_or (moves_at a s).texts n q in
       let yes : (class_has m.words t && accepts a d m.rest) ≡ true = first.passes q in
-      let rest = runs_some a d m.rest (and_second (class_has m.words t) (accepts a d m.rest) yes) in
+      let rest = runs_some a d m.rest (and_right (class_has m.words t) (accepts a d m.rest) yes) in
       let here : over_word t d n m ≡ takes_text n rest.0 ∷ map (takes_text n) rest.1 =
-      ap (λ b. cond b (map (takes_text n) (Numbered.runs a d m.rest)) []) (and_first (class_has m.words t) (accepts a d m.rest) yes) ∙ ap (map (takes_text n)) rest.2 in
+      ap (λ b. cond b (map (takes_text n) (Numbered.runs a d m.rest)) []) (and_left (class_has m.words t) (accepts a d m.rest) yes) ∙ ap (map (takes_text n)) rest.2 in
       let all = first_given (over_word t d) (moves_at a s).texts n q (takes_text n rest.0) (map (takes_text n) rest.1) first.within (λ i f l. no_word t d i (get_or (moves_at a s).texts i f) (first.before i f l)) here in
       ap (λ rs. held_in x (text t d) (first_of (map (with_marks a k s) rs))) all.1
       ∙ ap (λ z. join (if_marked (get_or (k s).texts n []) x (text t empty)) z) (sym (ap (λ rs. held_in x d (first_of (map (with_marks a k m.rest) rs))) rest.2))
-      ∙ ap (λ (z : TextMove). join (if_marked (get_or (k s).texts n []) x (text t empty)) (first_held a k x d z.rest)) (same_default (moves_at a s).texts n q e first.within)
+      ∙ ap (λ (z : TextMove). join (if_marked (get_or (k s).texts n []) x (text t empty)) (first_held a k x d z.rest)) (same_at (moves_at a s).texts n q e first.within)
 
   -- a move that leads over an element leads to states that accept its parts
   pub content_accepted : (l : List ℕ) (c d : Document) (m : LabelMove) → takes_by_label a l c d m ≡ true → accepts a c m.content ≡ true
-  content_accepted l c d m h = and_first (accepts a c m.content) (accepts a d m.rest) (and_second (class_has m.class l) (accepts a c m.content && accepts a d m.rest) h)
+  content_accepted l c d m h = and_left (accepts a c m.content) (accepts a d m.rest) (and_right (class_has m.class l) (accepts a c m.content && accepts a d m.rest) h)
 
   pub rest_accepted : (l : List ℕ) (c d : Document) (m : LabelMove) → takes_by_label a l c d m ≡ true → accepts a d m.rest ≡ true
-  rest_accepted l c d m h = and_second (accepts a c m.content) (accepts a d m.rest) (and_second (class_has m.class l) (accepts a c m.content && accepts a d m.rest) h)
+  rest_accepted l c d m h = and_right (accepts a c m.content) (accepts a d m.rest) (and_right (class_has m.class l) (accepts a c m.content && accepts a d m.rest) h)
 
   pub word_accepted : (t : List ℕ) (d : Document) (m : TextMove) → takes_word a t d m ≡ true → accepts a d m.rest ≡ true
-  word_accepted t d m h = and_second (class_has m.words t) (accepts a d m.rest) h
+  word_accepted t d m h = and_right (class_has m.words t) (accepts a d m.rest) h
 
   -- and over an element
   pub held_element : (x : List ℕ) (n : ℕ) (l : List ℕ) (c d : Document) (s : State) (e : LabelMove) → IsFirst (takes_by_label a l c d) (moves_at a s).labels n
@@ -130,14 +119,14 @@ module _ (a : Automaton) (k : Marking) where
       let rest = runs_some a d m.rest (rest_accepted l c d m yes) in
       let over : Numbered.Run → List Numbered.Run = λ p. map (takes_element n p) (Numbered.runs a d m.rest) in
       let here : over_label l c d n m ≡ takes_element n inside.0 rest.0 ∷ (map (takes_element n inside.0) rest.1 ++ flat_map over inside.1) =
-      ap (λ b. cond b (flat_map over (Numbered.runs a c m.content)) []) (and_first (class_has m.class l) (accepts a c m.content && accepts a d m.rest) yes)
+      ap (λ b. cond b (flat_map over (Numbered.runs a c m.content)) []) (and_left (class_has m.class l) (accepts a c m.content && accepts a d m.rest) yes)
       ∙ ap (flat_map over) inside.2 ∙ ap (λ rs. map (takes_element n inside.0) rs ++ flat_map over inside.1) rest.2 in
       let all = first_given (over_label l c d) (moves_at a s).labels n q (takes_element n inside.0 rest.0) (map (takes_element n inside.0) rest.1 ++ flat_map over inside.1) first.within
       (λ i f g. no_label l c d i (get_or (moves_at a s).labels i f) (first.before i f g)) here in
       ap (λ rs. held_in x (element l c d) (first_of (map (with_marks a k s) rs))) all.1
       ∙ ap (λ z. join (if_marked (get_or (k s).labels n []) x (element l c empty)) (join z (held_in x d (Some (with_marks a k m.rest rest.0))))) (sym (ap (λ rs. held_in x c (first_of (map (with_marks a k m.content) rs))) inside.2))
       ∙ ap (λ z. join (if_marked (get_or (k s).labels n []) x (element l c empty)) (join (first_held a k x c m.content) z)) (sym (ap (λ rs. held_in x d (first_of (map (with_marks a k m.rest) rs))) rest.2))
-      ∙ ap (λ (z : LabelMove). join (if_marked (get_or (k s).labels n []) x (element l c empty)) (join (first_held a k x c z.content) (first_held a k x d z.rest))) (same_default (moves_at a s).labels n q e first.within)
+      ∙ ap (λ (z : LabelMove). join (if_marked (get_or (k s).labels n []) x (element l c empty)) (join (first_held a k x c z.content) (first_held a k x d z.rest))) (same_at (moves_at a s).labels n q e first.within)
 
   -- an empty document gives nothing
   pub held_empty : (x : List ℕ) (s : State) → first_held a k x empty s ≡ empty

@@ -1,14 +1,15 @@
 -- Marks that spread along the edges of a graph, and the states that are left without one.
-use Rattle.std.proofs.Common.{ℕ, zero, suc, ◌≡◌, ◌⊎◌, ◌+◌, ◌<◌, Bool, true, false, List, [], ◌∷◌, ◌++◌, length, get_or, set, arith, refl, sym, ap, subst, ◌∙◌, inl, inr}
+use Rattle.std.proofs.Common.{ℕ, ◌≡◌, ◌⊎◌, ◌+◌, ◌<◌, Bool, true, false, List, [], ◌∷◌, ◌++◌, length, get_or, set, arith, refl, sym, ap, subst, ◌∙◌, inl, inr}
 use Rattle.std.proofs.lemmas.List.{get_or-set_same, get_or-set_other, get_or_past, get_or_read, length_push}
 use Rattle.std.proofs.lemmas.Bool.{cases_eq, cases_lt}
 use Rattle.xd_auto.specs.declared.auto.State.{State}
 use Rattle.xd_auto.specs.Automaton.{Automaton, IsState, state_number}
+use Rattle.xd_auto.proofs.Closed.{state_of_number}
 use Rattle.xd_syntax.specs.Ways.{Among}
 use Rattle.xd_sound.specs.Emptiness.{is_marked}
 use Rattle.xd_sound.specs.Graph.{HasEdge, successors}
 use Rattle.xd_syntax.proofs.Members.{mem_append, append_left, append_right}
-use Rattle.xd_sound.proofs.EmptyLemmas.{among_one}
+use Rattle.xd_sound.proofs.EmptyLemmas.{among_one, unmarked_push}
 use Rattle.xd_sound.proofs.Graphs.{edge_made, edges_kept, with_edge}
 use Rattle.xd_patterns.specs.Marked.{Marking}
 use Rattle.xd_match.specs.Tails.{AreBehind, AreTails, IsEven, IsSpread, LeadsFrom, is_mixed}
@@ -92,19 +93,10 @@ pub record AreSeeded (a : Automaton) (k : Marking) (mixed : List Bool) (waiting 
   pub even : (s : State) → state_number s < n → Among (state_number s) waiting ⊎ IsEven a k s
   pub within : (i : ℕ) → Among i waiting → i < n
 
-no_mark_more : (mixed : List Bool) → ((i : ℕ) → is_marked mixed i ≡ false) → (i : ℕ) → is_marked (mixed ++ false ∷ []) i ≡ false
-no_mark_more [] h zero = refl
-no_mark_more [] h (suc i) = refl
-no_mark_more (b ∷ mixed) h zero = h zero
-no_mark_more (b ∷ mixed) h (suc i) = no_mark_more mixed (λ j. h (suc j)) i
-
-pub state_of_number : (s t : State) → state_number s ≡ state_number t → s ≡ t
-state_of_number s t e = ap (λ (n : ℕ). record { number = n }) e
-
 pub seeded_waits : (a : Automaton) (k : Marking) (mixed : List Bool) (waiting : List ℕ) (n : ℕ) → AreSeeded a k mixed waiting n → AreSeeded a k (mixed ++ false ∷ []) (waiting ++ n ∷ []) (n + 1)
 seeded_waits a k mixed waiting n h = record {
   count = (let l = length_push mixed false in let c = h.count in omega arith);
-  none = no_mark_more mixed h.none;
+  none = unmarked_push mixed h.none;
   even = λ s l. elim (cases_eq (state_number s) n) [
     | inl q ↦ inl (append_right (state_number s) waiting (n ∷ []) (inl (sym q)))
     | inr q ↦ elim (h.even s (omega arith)) [ inl b ↦ inl (append_left (state_number s) waiting (n ∷ []) b) | inr b ↦ inr b ]
@@ -116,7 +108,7 @@ pub seeded_even : (a : Automaton) (k : Marking) (mixed : List Bool) (waiting : L
     AreSeeded a k (mixed ++ false ∷ []) waiting (n + 1)
 seeded_even a k mixed waiting n t number here h = record {
   count = (let l = length_push mixed false in let c = h.count in omega arith);
-  none = no_mark_more mixed h.none;
+  none = unmarked_push mixed h.none;
   even = λ s l. elim (cases_eq (state_number s) n) [
     | inl q ↦ inr (subst (IsEven a k) (state_of_number t s (number ∙ sym q)) here)
     | inr q ↦ h.even s (omega arith)

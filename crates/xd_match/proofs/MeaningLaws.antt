@@ -1,5 +1,5 @@
 -- Tables of types that grow, and what names stand for in them.
-use Rattle.std.proofs.Common.{ℕ, ◌≡◌, ◌<◌, ◌≤◌, arith, List, [], ◌∷◌, ◌++◌, map, length, length-append, append_assoc, refl, ap, ◌∙◌}
+use Rattle.std.proofs.Common.{ℕ, ◌≡◌, ◌<◌, arith, List, [], ◌∷◌, map, length, refl, ap, ◌∙◌}
 use Rattle.std.specs.List.{AllByRecursion}
 use Rattle.xd_doc.specs.Classes.{LabelClass}
 use Rattle.xd_syntax.specs.Words.{any_word}
@@ -10,29 +10,20 @@ use Rattle.xd_syntax.specs.PlacedTable.{placed_at}
 use Rattle.xd_syntax.specs.Program.{TypeDefinition}
 use Rattle.xd_syntax.specs.Kept.{ProgramTable, ProgramStands, TypeDefStands, type_definition}
 use Rattle.xd_syntax.specs.declared.types.TypeDef.{TypeDef}
-use Rattle.xd_syntax.proofs.Trees.{tree_kept}
 use Rattle.xd_syntax.proofs.PlacedTrees.{placed_kept}
+use Rattle.xd_syntax.proofs.TableRows.{KeepsRows-length, KeepsRows-tree}
 use Rattle.xd_sound.proofs.EmptyLemmas.{bodies_below}
 use Rattle.xd_patterns.specs.Bodies.{IsNodeOf, node_of}
 use Rattle.xd_patterns.proofs.Bodied.{are_bodies}
 use Rattle.xd_match.specs.Meanings.{Means}
 use Rattle.xd_match.specs.declared.meanings.Meanings.{Meanings}
 
-pub rows_keep : (old middle new : List Row) → KeepsRows old middle → KeepsRows middle new → KeepsRows old new
-rows_keep old middle new k m = record { more = k.more ++ m.more; grown = m.grown ∙ ap (λ rs. rs ++ m.more) k.grown ∙ append_assoc old k.more m.more }
-
-more_rows : (old new : List Row) → KeepsRows old new → length old ≤ length new
-more_rows old new k = let e = ap length k.grown in omega (arith, length-append old k.more)
-
-tree_stays : (old new : List Row) → KeepsRows old new → (i : ℕ) → i < length old → tree_at new i ≡ tree_at old i
-tree_stays old new k i h = ap (λ rs. tree_at rs i) k.grown ∙ tree_kept old k.more i h
-
 -- the element and the text in the table that has both
 pub part_trees : (t1 t2 t3 : List Row) (n e x : ℕ) (w : List ℕ) (k : LabelClass) → KeepsRows t2 t3 → e < length t2 → tree_at t1 n ≡ Name w → w ≡ any_word → k ≡ all_labels →
     tree_at t2 e ≡ Elem k (tree_at t1 n) → tree_at t3 x ≡ Text → (tree_at t3 e ≡ Elem all_labels (Name any_word)) × (tree_at t3 x ≡ Text) × (e < length t3)
 part_trees t1 t2 t3 n e x w k keeps h name word all element text =
-    let l = more_rows t2 t3 keeps in
-    (tree_stays t2 t3 keeps e h ∙ element ∙ ap (λ T. Elem k T) (name ∙ ap Name word) ∙ ap (λ (c : LabelClass). Elem c (Name any_word)) all, text, omega arith)
+    let l = KeepsRows-length t2 t3 keeps in
+    (KeepsRows-tree t2 t3 keeps e h ∙ element ∙ ap (λ T. Elem k T) (name ∙ ap Name word) ∙ ap (λ (c : LabelClass). Elem c (Name any_word)) all, text, omega arith)
 
 abbrev pair : TypeDefinition → List ℕ × Tree
 pair t = (t.name, unplaced t.body)
@@ -48,5 +39,5 @@ pub means : (p : ProgramTable) (m : Meanings) → KeepsRows p.types m.types → 
     ((w : List ℕ) → IsNodeOf p.type_defs any w (node_of m.bodies w)) → Means p m
 means p m k stands any there is nodes = record {
   names = ap (λ (E : Definitions). (any_word, any_type) ∷ E) (definitions_stay p.types m.types k p.type_defs stands.type_defs);
-  bodies = are_bodies m.types p.type_defs any (node_of m.bodies) (bodies_below p.types (length m.types) (more_rows p.types m.types k) p.type_defs stands.type_defs) there is nodes;
+  bodies = are_bodies m.types p.type_defs any (node_of m.bodies) (bodies_below p.types (length m.types) (KeepsRows-length p.types m.types k) p.type_defs stands.type_defs) there is nodes;
 }

@@ -4,11 +4,10 @@ use Rattle.std.specs.List.{AllByRecursion}
 use Rattle.xd_doc.specs.Document.{Document, empty, text, element, join, has_item}
 use Rattle.xd_doc.specs.DocumentCode.{first_then}
 use Rattle.xd_doc.specs.Stored.{document_at}
-use Rattle.xd_doc.specs.StoredSeq.{BelongsTo}
-use Rattle.xd_doc.specs.StoreNodes.{Keeps, no_items}
+use Rattle.xd_doc.specs.StoreNodes.{Keeps}
 use Rattle.xd_match.specs.declared.binding.Piece.{Piece}
 use Rattle.xd_match.specs.declared.binding.Piece.TheVariants.{First, Whole}
-use Rattle.xd_match.specs.Taking.{PieceBelongs, pieces_then, seq_of}
+use Rattle.xd_match.specs.Taking.{PieceBelongs, pieces_then}
 
 pub piece_belongs : (ds : List Document) (ps : List Piece) (i : ℕ) (e : Piece) → AllByRecursion (PieceBelongs ds) ps → i < length ps → PieceBelongs ds (get_or ps i e)
 piece_belongs ds [] i e h lt = absurd (omega arith)
@@ -26,9 +25,6 @@ pieces_more ds (x ∷ xs) (suc i) e d lt = pieces_more ds xs i e d (omega arith)
 pub pieces_none : (ds : List Document) (ps : List Piece) (d : Document) → pieces_then ds (drop (length ps) ps) d ≡ d
 pieces_none ds [] d = refl
 pieces_none ds (x ∷ xs) d = pieces_none ds xs d
-
-pub none_belongs : (ds : List Document) → BelongsTo ds no_items
-none_belongs ds = record { place = tt; proper = refl; filled = refl }
 
 -- pieces stand for the same where a store keeps its documents
 pub pieces_kept : (old new : List Document) (ps : List Piece) (d : Document) → Keeps old new → AllByRecursion (PieceBelongs old) ps → pieces_then new ps d ≡ pieces_then old ps d
@@ -58,8 +54,3 @@ pub nothing_in : (d : Document) → true ≡ not (has_item d) → d ≡ empty
 nothing_in empty e = refl
 nothing_in (text t d) e = absurd (cc)
 nothing_in (element l c d) e = absurd (cc)
-
--- pieces that stand in a store stand in one that keeps it
-pub pieces_belong : (ds es : List Document) (ps : List Piece) → Keeps ds es → AllByRecursion (PieceBelongs ds) ps → AllByRecursion (PieceBelongs es) ps
-pieces_belong ds es [] k h = tt
-pieces_belong ds es (p ∷ ps) k h = (k.belongs (seq_of p) h.0, pieces_belong ds es ps k h.1)

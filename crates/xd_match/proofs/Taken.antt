@@ -8,12 +8,13 @@ use Rattle.xd_doc.specs.StoredSeq.{BelongsTo}
 use Rattle.xd_doc.specs.StoreNodes.{first_of_document}
 use Rattle.xd_doc.specs.declared.store.Seq.{Seq}
 use Rattle.xd_doc.specs.declared.store.Item.TheVariants.{Text, Elem}
+use Rattle.xd_doc.proofs.Lists.{all_append, all_but_last}
+use Rattle.xd_doc.proofs.Joins.{join_empty-right, join_assoc}
 use Rattle.xd_auto.specs.declared.auto.State.{State}
 use Rattle.xd_auto.specs.declared.auto.LabelMove.{LabelMove}
 use Rattle.xd_auto.specs.declared.auto.TextMove.{TextMove}
 use Rattle.xd_auto.specs.Automaton.{Automaton, moves_at, takes_element, takes_word}
 use Rattle.xd_syntax.specs.Words.{has_word}
-use Rattle.xd_laws.proofs.Documents.{join_assoc, join_empty-right}
 use Rattle.xd_pattern_runs.specs.Runs.{if_marked}
 use Rattle.xd_patterns.specs.Marked.{Marking}
 use Rattle.xd_match.specs.declared.binding.Piece.{Piece}
@@ -25,14 +26,6 @@ use Rattle.xd_match.specs.Taking.{AddsPiece, AreTaken, IsFirst, IsReady, PieceBe
 use Rattle.xd_match.proofs.Firsts.{held_element, held_empty, held_text}
 use Rattle.xd_match.proofs.TailLaw.{tail_held}
 use Rattle.xd_match.proofs.Pieces.{pieces_append}
-
-pub all_front : {X : Type 0} (P : X → Type 0) (xs : List X) (x : X) → AllByRecursion P (xs ++ x ∷ []) → AllByRecursion P xs × P x
-all_front P [] x h = (tt, h.0)
-all_front P (y ∷ ys) x h = let r = all_front P ys x h.1 in ((h.0, r.0), r.1)
-
-pub all_append : {X : Type 0} (P : X → Type 0) (xs ys : List X) → AllByRecursion P xs → AllByRecursion P ys → AllByRecursion P (xs ++ ys)
-all_append P [] ys h g = g
-all_append P (x ∷ xs) ys h g = (h.0, all_append P xs ys h.1 g)
 
 pub work_append : (ds : List Document) (ts us : List Task) → work ds (ts ++ us) ≡ work ds ts + work ds us
 work_append ds [] us = omega arith
@@ -66,7 +59,7 @@ module _ {A : Type 0} (a : Automaton) (k : Marking) (vs : List (List ℕ)) (ds :
       → TakesItem a k vs ds t old new next → AreTaken a k vs ds start new (ts ++ next)
   taken_more old new ts t next h q = record {
     count = q.same ∙ h.count;
-    ready = all_append (IsReady a ds) ts next (all_front (IsReady a ds) ts t h.ready).0 q.ready;
+    ready = all_append (IsReady a ds) ts next (all_but_last (IsReady a ds) ts t h.ready).0 q.ready;
     belong = λ x e lt. q.belong x e (omega (arith, h.count)) (h.belong x e lt);
     held_is = λ x e lt.
         ap (pieces_then ds (get_or new x e).items) (waiting_append a k ds (get_or vs x []) ts next)
@@ -80,7 +73,7 @@ module _ {A : Type 0} (a : Automaton) (k : Marking) (vs : List (List ℕ)) (ds :
       → AreTaken a k vs ds start old ts
   taken_empty old ts t h none = record {
     count = h.count;
-    ready = (all_front (IsReady a ds) ts t h.ready).0;
+    ready = (all_but_last (IsReady a ds) ts t h.ready).0;
     belong = h.belong;
     held_is = λ x e lt.
         let w : List ℕ = get_or vs x [] in
@@ -112,7 +105,7 @@ module _ {A : Type 0} (a : Automaton) (k : Marking) (vs : List (List ℕ)) (ds :
   }
     where
       front : AllByRecursion (IsReady a ds) ts × IsReady a ds t
-      front = all_front (IsReady a ds) ts t h.ready
+      front = all_but_last (IsReady a ds) ts t h.ready
 
       noted_whole : (b : Bool) (w : Document) → pieces_then ds (cond b (Whole t.seq ∷ []) []) w ≡ join (cond b (document_at ds t.seq) empty) w
       noted_whole true w = refl

@@ -1,10 +1,10 @@
 -- How many continuations cells can make.
 use Rattle.std.proofs.Common.{◌≡◌, ℕ, zero, suc, ◌+◌, ◌<◌, ◌≤◌, ◌⊎◌, arith, Bool, true, false, List, length, refl, ap, sym, ◌∙◌, inl, inr}
 use Rattle.std.specs.List.{AllByRecursion}
+use Rattle.xd_doc.proofs.Lists.{all_more}
 use Rattle.xd_syntax.specs.Ways.{Among}
 use Rattle.xd_continuations.specs.Chains.{lists_in, AreLinks}
 use Rattle.xd_continuations.proofs.ChainLemmas.{few_links}
-use Rattle.xd_continuations.proofs.FiniteLemmas.{all_same}
 use Rattle.xd_moves.specs.Cells.{Cell, pieces_below, room}
 use Rattle.xd_moves.specs.declared.piece.Piece.{Piece}
 
@@ -30,4 +30,4 @@ below_among (suc n) p h = go p.is_turns refl (λ l. below_among n p l) (cases_eq
 pub few_cells : (n most : ℕ) (cells : List Cell) → AreLinks cells → AllByRecursion (λ (c : Cell). c.item.node < n) cells →
     AllByRecursion (λ (K : List Piece). length K ≤ most) (lists_in cells) → length cells + 1 ≤ room n most
 few_cells n most cells a below short =
-    few_links (pieces_below n) most cells a (all_same (λ (c : Cell). c.item.node < n) (λ c. Among c.item (pieces_below n)) cells (λ c h. below_among n c.item h) below) short
+    few_links (pieces_below n) most cells a (all_more (λ (c : Cell). c.item.node < n) (λ c. Among c.item (pieces_below n)) cells (λ c h. below_among n c.item h) below) short

@@ -1,13 +1,12 @@
 -- Codes of forms differ where the forms' trees do.
-use Rattle.std.proofs.Common.{◌≡◌, ℕ, zero, suc, ◌+◌, ◌<◌, ◌≤◌, arith, Bool, true, false, ◌||◌, List, [], ◌∷◌, ◌++◌, map, length, take, drop, get_or, refl, ap, sym, subst, ◌∙◌, append_assoc, append-nil}
+use Rattle.std.proofs.Common.{◌≡◌, ℕ, ◌+◌, ◌<◌, ◌≤◌, arith, Bool, true, false, ◌||◌, List, [], ◌∷◌, ◌++◌, map, length, take, drop, get_or, refl, ap, sym, subst, ◌∙◌, append_assoc, append-nil}
 use Rattle.std.specs.List.{AllByRecursion}
 use Rattle.std.proofs.lemmas.List.{take_more, take-append-drop}
 use Rattle.xd_doc.specs.Classes.{LabelClass}
+use Rattle.xd_doc.proofs.Lists.{same_fronts}
 use Rattle.xd_syntax.specs.Tree.{Tree, Empty, Text, Words, Name, Elem, Seq, Alt, Star, Plus, Opt, Val, seq_of, is_empty}
 use Rattle.xd_syntax.specs.TreeForms.{alt_of, is_seq, is_alt}
 use Rattle.xd_syntax.specs.Table.{Row, Form, empty_form, text_form, words_form, name_form, elem_form, seq_form, alt_form, star_form, plus_form, opt_form, val_form, form_tree, tree_at, CanFollow, IsSeqPart, IsAltPart, PartsBelow}
-use Rattle.xd_syntax.specs.Types.{type_numbers}
-use Rattle.xd_syntax.specs.declared.types.TypeId.{TypeId}
 use Rattle.xd_syntax.proofs.Trees.{tree_kept}
 use Rattle.xd_moves.specs.Codes.{code_names, code_except, form_code}
 
@@ -34,17 +33,6 @@ same_code f g n h (val_form x q i) p = ap (λ k. 10 ∷ (k ∷ x)) (h i p)
 
 same_cons : (x y : ℕ) (xs ys : List ℕ) → (x ∷ xs) ≡ (y ∷ ys) → (x ≡ y) × (xs ≡ ys)
 same_cons x y xs ys e = (cc, cc)
-
-same_fronts : (v w : List ℕ) (xs ys : List ℕ) → length v ≡ length w → v ++ xs ≡ w ++ ys → (v ≡ w) × (xs ≡ ys)
-same_fronts [] [] xs ys l e = (refl, e)
-same_fronts [] (y ∷ w) xs ys l e = absurd (omega arith)
-same_fronts (x ∷ v) [] xs ys l e = absurd (omega arith)
-same_fronts (x ∷ v) (y ∷ w) xs ys l e =
-    let c = same_cons x y (v ++ xs) (w ++ ys) e in
-    let r = same_fronts v w xs ys (omega arith) c.1 in
-    let a = c.0 in
-    let b = r.0 in
-    (cc, r.1)
 
 same_names : (vs ws : List (List ℕ)) → code_names vs ≡ code_names ws → vs ≡ ws
 same_names [] [] e = refl
@@ -274,8 +262,3 @@ names_more (x ∷ xs) w =
 
 pub names_taken : (ws : List (List ℕ)) (n : ℕ) (w : List ℕ) → n < length ws → w ≡ get_or ws n w → code_names (take (n + 1) ws) ≡ code_names (take n ws) ++ (length w ∷ w)
 names_taken ws n w h e = ap code_names (take_more ws n w h ∙ ap (λ v. take n ws ++ v ∷ []) (sym e)) ∙ names_more (take n ws) w
-
-pub part_below : (n : ℕ) (parts : List TypeId) (k : ℕ) (d : TypeId) → AllByRecursion (λ i. i < n) (type_numbers parts) → k < length parts → (get_or parts k d).at < n
-part_below n [] k d a h = absurd (omega arith)
-part_below n (p ∷ ps) zero d a h = a.0
-part_below n (p ∷ ps) (suc k) d a h = part_below n ps k d a.1 (omega arith)

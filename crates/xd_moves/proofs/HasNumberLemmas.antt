@@ -2,8 +2,9 @@
 use Rattle.std.proofs.Common.{◌≡◌, ℕ, zero, suc, ◌+◌, ◌<◌, ◌≤◌, ◌⊎◌, inl, inr, arith, Bool, true, false, cond, Some, List, [], ◌∷◌, ◌++◌, length, get_or, refl, ap, sym, subst, ◌∙◌, length-append}
 use Rattle.std.specs.List.{slice_get}
 use Rattle.std.proofs.lemmas.List.{get_or_push}
-use Rattle.std.proofs.lemmas.Bool.{cases_lt}
 use Rattle.std.proofs.Math.ListN.{get_or-append}
+use Rattle.std.proofs.lemmas.Option.{slice_get-get_or}
+use Rattle.xd_doc.proofs.Numbers.{less_cases}
 use Rattle.xd_syntax.specs.Tree.{Tree}
 use Rattle.xd_syntax.specs.Table.{Row, Form, empty_form, text_form, words_form, name_form, elem_form, seq_form, alt_form, star_form, plus_form, opt_form, val_form, form_tree, tree_at, AreBuilt, PartsBelow}
 use Rattle.xd_syntax.specs.Nodes.{row_at}
@@ -121,11 +122,6 @@ within_lists [] xs n h = cc
 within_lists (l ∷ ls) xs zero h = omega arith
 within_lists (l ∷ ls) xs (suc n) h = let i = within_lists ls xs n h in omega arith
 
-get_there : {A : Type 0} (xs : List A) (k : ℕ) (d : A) → k < length xs → slice_get xs k ≡ Some (get_or xs k d)
-get_there [] k d h = absurd (omega arith)
-get_there (x ∷ xs) zero d h = refl
-get_there (x ∷ xs) (suc k) d h = get_there xs k d (omega arith)
-
 module _ (rows : List Row) (built : AreBuilt false rows) (lists : List (List ℕ)) (once : StandOnce lists) (f : FirstPieces) (a : AreNumberedBy rows (length rows) lists f) where
   num : ℕ → ℕ
   num = number_at f.numbers.items
@@ -168,7 +164,7 @@ module _ (rows : List Row) (built : AreBuilt false rows) (lists : List (List ℕ
   first_has : (p : Piece) (d : Piece) → p.node < length rows →
       ((get_or f.firsts.items (piece_number f p) d).node < length rows) × HasNumber lists (form_code num (piece_form rows (get_or f.firsts.items (piece_number f p) d))) (piece_number f p)
   unfolding num
-  first_has p d h = a.first (piece_number f p) (get_or f.firsts.items (piece_number f p) d) (get_there f.firsts.items (piece_number f p) d (number_within p h))
+  first_has p d h = a.first (piece_number f p) (get_or f.firsts.items (piece_number f p) d) (slice_get-get_or f.firsts.items (piece_number f p) d (number_within p h))
 
   any_first : (xs : List Piece) (k : ℕ) (d e : Piece) → k < length xs → get_or xs k d ≡ get_or xs k e
   any_first [] k d e h = absurd (omega arith)
@@ -214,9 +210,6 @@ firsts_more rows numbers m n lists new firsts firsts' piece number a k f l w h i
     go (inl e) = old (ap (λ xs. slice_get xs i) (sym e) ∙ s)
     go (inr e) = elim (last firsts i (ap (λ xs. slice_get xs i) (sym e.0) ∙ s)) [ inl q ↦ old q | inr q ↦ new_one e q ]
 
-cases_below : (j n : ℕ) → j < n + 1 → (j < n) ⊎ (j ≡ n)
-cases_below j n h = elim (cases_lt j n) [ inl l ↦ inl l | inr l ↦ inr (omega arith) ]
-
 -- lists of numbers are kept while one more number is put after
 module _ (rows : List Row) (built : AreBuilt false rows) (numbers : List ℕ) (n k : ℕ) (l : length numbers ≡ n) (h : n < length rows) where
   abbrev more : List ℕ
@@ -234,7 +227,7 @@ module _ (rows : List Row) (built : AreBuilt false rows) (numbers : List ℕ) (n
 
   number_more : (t : Bool) (turns : List ℕ) (m : ℕ) (lists new : List (List ℕ)) → length turns ≡ n → ((j : ℕ) → j < n → HasNumber lists (code_at t j numbers) (number_at turns j)) →
       KeepsLists lists new → HasNumber new (code_at t n numbers) m → (j : ℕ) → j < n + 1 → HasNumber new (code_at t j more) (number_at (turns ++ m ∷ []) j)
-  number_more t turns m lists new tl a keeps c j i = go (cases_below j n i)
+  number_more t turns m lists new tl a keeps c j i = go (less_cases j n i)
     where
       go : (j < n) ⊎ (j ≡ n) → HasNumber new (code_at t j more) (number_at (turns ++ m ∷ []) j)
       go (inl q) =

@@ -5,8 +5,10 @@ use Rattle.std.proofs.lemmas.Bool.Decides.{nat_tests}
 use Rattle.std.specs.Cmp.Lexicographic.{pointwise}
 use Rattle.std.specs.List.{list_any, slice_get}
 use Rattle.std.specs.Prelude.{if◌then◌else◌, Vec}
+use Rattle.xd_doc.proofs.SortedNames.{is_same}
 use Rattle.xd_syntax.specs.Ways.{Among}
 use Rattle.xd_syntax.proofs.Members.{mem_append}
+use Rattle.xd_syntax.proofs.Words.{got_among}
 use Rattle.xd_moves.specs.Lists.{lists_of, AddsList, StandOnce, KeepsLists, HasNumber}
 
 -- ---- equal numbers of equal lists
@@ -15,11 +17,6 @@ get_kept : (ls ms : List (List ℕ)) (k : ℕ) (xs : List ℕ) → slice_get ls 
 get_kept [] ms k xs h = cc
 get_kept (l ∷ ls) ms zero xs h = h
 get_kept (l ∷ ls) ms (suc k) xs h = get_kept ls ms k xs h
-
-get_among : (ls : List (List ℕ)) (k : ℕ) (xs : List ℕ) → slice_get ls k ≡ Some xs → Among xs ls
-get_among [] k xs h = cc
-get_among (l ∷ ls) zero xs h = inl (cc)
-get_among (l ∷ ls) (suc k) xs h = inr (get_among ls k xs h)
 
 -- a list keeps its number
 pub number_kept : (old new : List (List ℕ)) (xs : List ℕ) (n : ℕ) → KeepsLists old new → HasNumber old xs n → HasNumber new xs n
@@ -32,8 +29,8 @@ lists_then a b c k l = record { more = k.more ++ l.more; grown = l.grown ∙ ap 
 pub one_number : (ls : List (List ℕ)) → StandOnce ls → (xs : List ℕ) (m n : ℕ) → HasNumber ls xs m → HasNumber ls xs n → m ≡ n
 one_number [] s xs m n h k = cc
 one_number (l ∷ ls) s xs zero zero h k = refl
-one_number (l ∷ ls) s xs zero (suc n) h k = let e : xs ≡ l = cc in absurd (s.0 (subst (λ q. Among q ls) e (get_among ls n xs k)))
-one_number (l ∷ ls) s xs (suc m) zero h k = let e : xs ≡ l = cc in absurd (s.0 (subst (λ q. Among q ls) e (get_among ls m xs h)))
+one_number (l ∷ ls) s xs zero (suc n) h k = let e : xs ≡ l = cc in absurd (s.0 (subst (λ q. Among q ls) e (got_among ls n xs k)))
+one_number (l ∷ ls) s xs (suc m) zero h k = let e : xs ≡ l = cc in absurd (s.0 (subst (λ q. Among q ls) e (got_among ls m xs h)))
 one_number (l ∷ ls) s xs (suc m) (suc n) h k = ap suc (one_number ls s.1 xs m n h k)
 
 -- a number is that of one list
@@ -52,10 +49,6 @@ same_items (x ∷ xs) (y ∷ ys) h = go (nat_eq x y) refl (same_items xs ys) h
     go true i rest k = let e : y ≡ x = grind (arith, nat_tests) in let f = rest k in cc
     go false i rest k = cc
 
-whole_items : (xs : List ℕ) → pointwise nat_eq xs xs ≡ true
-whole_items [] = refl
-whole_items (x ∷ xs) = let e : nat_eq x x ≡ true = grind (arith, nat_tests) in rw e (whole_items xs)
-
 module _ {A : Type 0} where
   pub get_items : (vs : List (Vec ℕ A)) (k : ℕ) (v : Vec ℕ A) → slice_get vs k ≡ Some v → slice_get (lists_of vs) k ≡ Some v.items
   get_items [] k v h = cc
@@ -72,7 +65,7 @@ module _ {A : Type 0} where
 
   among_any : (v : Vec ℕ A) (vs : List (Vec ℕ A)) → Among v.items (lists_of vs) → list_any (λ w. pointwise nat_eq v.items w.items) vs ≡ true
   among_any v [] m = absurd m
-  among_any v (w ∷ vs) (inl e) = let q : pointwise nat_eq v.items w.items ≡ true = subst (λ ys. pointwise nat_eq v.items ys ≡ true) (sym e) (whole_items v.items) in rw q refl
+  among_any v (w ∷ vs) (inl e) = let q : pointwise nat_eq v.items w.items ≡ true = subst (λ ys. pointwise nat_eq v.items ys ≡ true) (sym e) (is_same v.items) in rw q refl
   among_any v (w ∷ vs) (inr m) = go (pointwise nat_eq v.items w.items) (among_any v vs m)
     where
       go : (b : Bool) → list_any (λ u. pointwise nat_eq v.items u.items) vs ≡ true → (b || list_any (λ u. pointwise nat_eq v.items u.items) vs) ≡ true

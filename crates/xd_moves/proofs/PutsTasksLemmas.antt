@@ -1,7 +1,8 @@
 -- Tasks that are put on others.
 use Rattle.std.proofs.Common.{◌≡◌, ℕ, zero, suc, ◌+◌, ◌-◌, ◌<◌, ◌≤◌, arith, Bool, true, false, cond, ◌⊎◌, List, [], ◌∷◌, ◌++◌, map, reverse, length, length-append, append_assoc, append-nil, take, drop, get_or, refl, ap, sym, subst, ◌∙◌, inl, inr}
 use Rattle.std.specs.List.{AllByRecursion}
-use Rattle.std.proofs.lemmas.List.{reverse-append, drop_more}
+use Rattle.std.proofs.lemmas.List.{drop_more}
+use Rattle.xd_doc.proofs.Lists.{all_more, all_append, reverse_push, map_append, take_front}
 use Rattle.xd_syntax.specs.Tree.{Tree, Definitions}
 use Rattle.xd_syntax.specs.Table.{Row, tree_at}
 use Rattle.xd_syntax.specs.Types.{type_numbers}
@@ -14,14 +15,9 @@ use Rattle.xd_continuations.specs.Bounds.{IsBounded}
 use Rattle.xd_continuations.proofs.IsBoundedLemmas.{bounded_rest}
 use Rattle.xd_moves.specs.declared.piece.Piece.{Piece}
 use Rattle.xd_moves.specs.Cells.{Cell, AreChosen, StayChosen}
-use Rattle.xd_continuations.proofs.MoveLemmas.{all_append, map_append}
-use Rattle.xd_continuations.proofs.FiniteLemmas.{all_same}
 use Rattle.xd_continuations.proofs.ChainLemmas.{list_kept, list_new, has_kept, kept_list, kept_length, kept_same, kept_then}
 
 -- ---- reverses
-
-pub reverse-push : {A : Type 0} (xs : List A) (y : A) → reverse (xs ++ y ∷ []) ≡ y ∷ reverse xs
-reverse-push xs y = reverse-append xs (y ∷ [])
 
 cases_le : (i n : ℕ) → i ≤ n + 1 → (i ≤ n) ⊎ (i ≡ n + 1)
 cases_le zero n h = inl (omega arith)
@@ -83,7 +79,7 @@ puts_more types cells old new ts c p i = record {
   grown = ap (λ xs. xs ++ c ∷ []) p.grown ∙ append_assoc old p.put (c ∷ []);
   stand = all_append (IsTask types cells) p.put (c ∷ []) p.stand (i, tt);
   same =
-      ap reverse (map_append (task_at types cells) p.put (c ∷ [])) ∙ reverse-push (map (task_at types cells) p.put) (task_at types cells c)
+      ap reverse (map_append (task_at types cells) p.put (c ∷ [])) ∙ reverse_push (map (task_at types cells) p.put) (task_at types cells c)
       ∙ ap (λ us. task_at types cells c ∷ us) p.same;
 }
 
@@ -98,7 +94,7 @@ tasks_kept types old new k (c ∷ cs) a =
 pub tasks_stand_on : (types : List Row) (old new : List Cell) → KeepsLinks old new → (cs : List Cell) → AllByRecursion (IsTask types old) cs → AllByRecursion (IsTask types new) cs
 tasks_stand_on types old new k cs a =
     let l = kept_length old new k in
-    all_same (IsTask types old) (IsTask types new) cs (λ c i. (i.0, (let h = i.1 in omega arith))) a
+    all_more (IsTask types old) (IsTask types new) cs (λ c i. (i.0, (let h = i.1 in omega arith))) a
 
 pub waiting_kept : (types : List Row) (old new : List Cell) → KeepsLinks old new → (cs : List Cell) → AllByRecursion (IsTask types old) cs →
     waiting_at types new cs ≡ waiting_at types old cs
@@ -130,10 +126,6 @@ piece_cell p n = record { item = p; behind = n }
 
 abbrev pub node_cell : ℕ → ℕ → Cell
 node_cell i n = piece_cell (node_piece i) n
-
-take_front : {A : Type 0} (xs ys : List A) → take (length xs) (xs ++ ys) ≡ xs
-take_front [] ys = refl
-take_front (x ∷ xs) ys = ap (λ zs. x ∷ zs) (take_front xs ys)
 
 -- the tasks that stay before another part, if it can be empty or not
 cut_tasks : (types : List Row) (cells old new kept : List Cell) (ts : List Task) (b : Bool) → PutsTasks types cells old new ts → kept ≡ cond b new (take (length old) new) →
@@ -170,11 +162,6 @@ numbers_drop parts n d h k =
     let s : n - 1 + 1 ≡ n = omega arith in
     let l : n - 1 < length parts = omega arith in
     ap type_numbers (drop_more parts (n - 1) d l) ∙ ap (λ m. (get_or parts (n - 1) d).at ∷ type_numbers (drop m parts)) s
-
-pub numbers_below : (m : ℕ) (parts : List TypeId) (i : ℕ) (d : TypeId) → AllByRecursion (λ n. n < m) (type_numbers parts) → i < length parts → (get_or parts i d).at < m
-numbers_below m [] i d a h = absurd (omega arith)
-numbers_below m (p ∷ parts) zero d a h = a.0
-numbers_below m (p ∷ parts) (suc i) d a h = numbers_below m parts i d a.1 (omega arith)
 
 -- the same, as the loop has it
 pub pushed_next : (types : List Row) (marks : List Bool) (old_cells : List Cell) (behind : ℕ) (old : List Cell) (is : List ℕ) (rest : ℕ) (cells new : List Cell) →

@@ -2,6 +2,7 @@
 use Rattle.std.proofs.Common.{Vec, Global, ◌≡◌, ℕ, ◌+◌, ◌<◌, ◌≤◌, arith, Bool, true, false, cond, List, [], ◌∷◌, ◌++◌, map, reverse, length, append_assoc, append-nil, take, drop, refl, ap, sym, subst, ◌∙◌}
 use Rattle.std.specs.List.{AllByRecursion}
 use Rattle.std.proofs.lemmas.List.{reverse-append, reverse-reverse, take-append-drop}
+use Rattle.xd_doc.proofs.Lists.{all_more, all_append, map_append, all_front, all_below}
 use Rattle.xd_syntax.specs.Tree.{Tree, Empty, Text, Words, Name, Elem, Seq, Alt, Star, Plus, Opt, Val, Definitions, seq_of}
 use Rattle.xd_syntax.specs.TreeForms.{alt_of, is_alt}
 use Rattle.xd_syntax.specs.Table.{Row, Form, empty_form, text_form, words_form, name_form, elem_form, seq_form, alt_form, star_form, plus_form, opt_form, val_form, form_tree, tree_at, IsSeqPart, IsAltPart, CanFollow, PartsBelow}
@@ -28,9 +29,8 @@ use Rattle.xd_continuations.proofs.TaskBounds.{along_bounded, left_bounded}
 use Rattle.xd_moves.specs.declared.piece.Piece.{Piece}
 use Rattle.xd_moves.specs.Cells.{Cell}
 use Rattle.xd_moves.specs.declared.expansion.Found.{Found}
-use Rattle.xd_continuations.proofs.MoveLemmas.{all_append, map_append, one_piece}
+use Rattle.xd_continuations.proofs.MoveLemmas.{one_piece}
 use Rattle.xd_continuations.proofs.IsMergedLemmas.{part_piece}
-use Rattle.xd_continuations.proofs.FiniteLemmas.{all_same}
 use Rattle.xd_continuations.proofs.TaskLemmas.{tasks_stand, step_gives, step_falls, none_to_come}
 use Rattle.xd_continuations.proofs.ChainLemmas.{kept_length, list_none}
 use Rattle.xd_moves.proofs.PutsTasksLemmas.{adds_none, adds_then, adds_cell, bounded_same, bounded_cell, piece_cell, continuation_kept, waiting_kept, tasks_stand_on}
@@ -173,7 +173,7 @@ moves_kept types old new k (f ∷ fs) a =
 pub found_stand_on : (types : List Row) (old new : List Cell) → KeepsLinks old new → (fs : List Found) → AllByRecursion (IsFound types old) fs → AllByRecursion (IsFound types new) fs
 found_stand_on types old new k fs a =
     let l = kept_length old new k in
-    all_same (IsFound types old) (IsFound types new) fs (λ f i. (i.0, (let h = i.1 in omega arith))) a
+    all_more (IsFound types old) (IsFound types new) fs (λ f i. (i.0, (let h = i.1 in omega arith))) a
 
 waiting-append : (types : List Row) (cells xs ys : List Cell) → waiting_at types cells (xs ++ ys) ≡ waiting_at types cells ys ++ waiting_at types cells xs
 waiting-append types cells xs ys = ap reverse (map_append (task_at types cells) xs ys) ∙ reverse-append (map (task_at types cells) xs) (map (task_at types cells) ys)
@@ -186,14 +186,6 @@ pub record IsExpanding (types : List Row) (ds : List TypeDef) (old : List Cell) 
   pub same : map (move_at types cells) found ++ moves_to_come (meanings types ds) (waiting_at types cells tasks) ≡ moves (meanings types ds) (continuation types old number)
   pub bounded : (m : ℕ) → RecursOnlyInTail (meanings types ds) → NoneLarger m (meanings types ds) → AreBounded (meanings types ds) m types old →
       AreBounded (meanings types ds) m types cells × AllByRecursion (IsBoundedTask (meanings types ds) m) (waiting_at types cells tasks)
-
-all_front : {A : Type 0} (P : A → Type 0) (xs ys : List A) → AllByRecursion P (xs ++ ys) → AllByRecursion P xs
-all_front P [] ys a = tt
-all_front P (x ∷ xs) ys a = (a.0, all_front P xs ys a.1)
-
-pub all_last : {A : Type 0} (P : A → Type 0) (xs : List A) (y : A) → AllByRecursion P (xs ++ y ∷ []) → P y
-all_last P [] y a = a.0
-all_last P (x ∷ xs) y a = all_last P xs y a.1
 
 module _ (types : List Row) (ds : List TypeDef) (guarded : Guarded (meanings types ds)) (old : List Cell) (number : ℕ) (cells cells' waiting left : List Cell) (t : Cell) (found found' : List Found)
     (i : IsExpanding types ds old number cells (waiting ++ t ∷ []) found) (w : IsWorkedOff types ds cells cells' t waiting left found found') where
@@ -277,18 +269,14 @@ tasks-along E (T ∷ K) =
 
 -- ---- one task, by its node
 
-all_below_more : (m n : ℕ) → m ≤ n → (is : List ℕ) → AllByRecursion (λ i. i < m) is → AllByRecursion (λ i. i < n) is
-all_below_more m n h [] a = tt
-all_below_more m n h (i ∷ is) a = ((let k = a.0 in omega arith), all_below_more m n h is a.1)
-
 parts_more : (m n : ℕ) → m ≤ n → (f : Form) → PartsBelow m f → PartsBelow n f
 parts_more m n h empty_form p = tt
 parts_more m n h text_form p = tt
 parts_more m n h (words_form w) p = tt
 parts_more m n h (name_form w) p = tt
 parts_more m n h (elem_form c i) p = omega arith
-parts_more m n h (seq_form is) p = all_below_more m n h is p
-parts_more m n h (alt_form is) p = all_below_more m n h is p
+parts_more m n h (seq_form is) p = all_below m n h is p
+parts_more m n h (alt_form is) p = all_below m n h is p
 parts_more m n h (star_form i) p = omega arith
 parts_more m n h (plus_form i) p = omega arith
 parts_more m n h (opt_form i) p = omega arith

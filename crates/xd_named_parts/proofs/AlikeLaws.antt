@@ -1,8 +1,9 @@
 -- Types that are alike, part by part.
-use Rattle.std.proofs.Common.{◌⊎◌, inl, inr, ◌<◌, arith, length, refl, List, [], ◌∷◌, map, Option}
+use Rattle.std.proofs.Common.{◌<◌, arith, length, refl, List, [], ◌∷◌, map, Option}
 use Rattle.std.proofs.lemmas.Bool.{and_from}
 use Rattle.xd_doc.specs.Document.{empty, text, element}
 use Rattle.xd_doc.specs.Classes.{LabelClass}
+use Rattle.xd_doc.proofs.Logic.{sum_map}
 use Rattle.xd_syntax.specs.Words.{any_word}
 use Rattle.xd_syntax.specs.Tree.{Tree, Elem, Seq, Alt, Star, Plus, Opt, seq_of}
 use Rattle.xd_syntax.specs.TreeForms.{alt_of}
@@ -24,10 +25,6 @@ alike_seq N M T U V W h i d = (
   split_map (FitsAs N T) (FitsAs N U) (FitsAs M V) (FitsAs M W) (λ e. (h e).0) (λ e. (i e).0) d,
   split_map (FitsAs M V) (FitsAs M W) (FitsAs N T) (FitsAs N U) (λ e. (h e).1) (λ e. (i e).1) d,
 )
-
-sum_map : {A B C D : Type 0} → (A → C) → (B → D) → A ⊎ B → C ⊎ D
-sum_map f g (inl a) = inl (f a)
-sum_map f g (inr b) = inr (g b)
 
 pub alike_alt : (N M : Meaning) (T U V W : Tree) → Alike N M T V → Alike N M U W → Alike N M (Alt T U) (Alt V W)
 alike_alt N M T U V W h i d = (sum_map (h d).0 (i d).0, sum_map (h d).1 (i d).1)

@@ -1,8 +1,8 @@
 -- Repetitions that every document fits.
-use Rattle.std.proofs.Common.{◌≡◌, ◌⊎◌, inl, inr, ℕ, zero, suc, ◌<◌, Bool, true, false, not, ◌&&◌, ◌==◌, cond, refl, sym, subst, nat_eq, List, [], ◌∷◌, length, get_or, arith}
-use Rattle.std.proofs.lemmas.Bool.Decides.{nat_tests}
+use Rattle.std.proofs.Common.{◌≡◌, ◌⊎◌, inl, inr, ℕ, zero, suc, ◌<◌, Bool, true, false, not, ◌&&◌, ◌==◌, cond, refl, sym, subst, List, [], ◌∷◌, length, get_or, arith}
 use Rattle.xd_doc.specs.Document.{Document, empty, text, element, has_item}
 use Rattle.xd_doc.specs.Classes.{LabelClass, class_has, is_named}
+use Rattle.xd_doc.proofs.Numbers.{same_number}
 use Rattle.xd_syntax.specs.Table.{Row}
 use Rattle.xd_syntax.specs.Types.{tree}
 use Rattle.xd_syntax.specs.Words.{any_word}
@@ -57,9 +57,6 @@ opt_all T t = record { fits = go }
 
 pub all_texts : (T : Tree) → T ≡ Text → TakesTexts T
 all_texts T q = subst TakesTexts (sym q) (record { fits = λ M s. refl })
-
-same_number : (m n : ℕ) → nat_eq m n ≡ true → m ≡ n
-same_number m n e = grind (arith, nat_tests)
 
 has_all : (k : LabelClass) (l : List ℕ) → has_each k ≡ true → class_has k l ≡ true
 has_all k l e = go k.except k.names e

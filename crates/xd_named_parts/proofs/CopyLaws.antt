@@ -1,42 +1,34 @@
 -- Laws of copies.
-use Rattle.std.proofs.Common.{◌≡◌, ◌≢◌, ◌⊎◌, ◌↔◌, inl, inr, ℕ, zero, suc, ◌+◌, ◌<◌, ◌≤◌, arith, refl, sym, ap, ◌∙◌, subst, true, List, [], ◌∷◌, ◌++◌, map, length, take, get_or, set, length-append, append_assoc, Option, Some, None, Result, Ok, Err}
+use Rattle.std.proofs.Common.{◌≡◌, ◌≢◌, ◌⊎◌, ◌↔◌, inl, inr, ℕ, zero, suc, ◌+◌, ◌<◌, arith, refl, sym, ap, ◌∙◌, subst, true, List, [], ◌∷◌, ◌++◌, map, length, take, get_or, set, length-append, Option, Some, None, Result, Ok, Err}
 use Rattle.std.specs.Option.{IfSome}
 use Rattle.std.specs.Result.{IfOk}
 use Rattle.std.specs.List.{AllByRecursion}
 use Rattle.std.proofs.lemmas.List.{length-set, get_or-set_same, get_or-set_other}
 use Rattle.xd_doc.specs.Classes.{LabelClass}
+use Rattle.xd_doc.proofs.Lists.{all_push, same_at}
+use Rattle.xd_doc.proofs.Options.{some_map}
 use Rattle.xd_syntax.specs.Words.{any_word}
 use Rattle.xd_syntax.specs.Tree.{Tree, Elem, Star, Plus, Opt, Name}
 use Rattle.xd_syntax.specs.TreeForms.{alt_of}
 use Rattle.xd_syntax.specs.Table.{Row, Form, KeepsRows, form_tree, elem_form, star_form, plus_form, opt_form, seq_form, alt_form, tree_at}
 use Rattle.xd_syntax.specs.Types.{BelongsTo, type_numbers}
 use Rattle.xd_syntax.specs.declared.types.TypeId.{TypeId}
-use Rattle.xd_syntax.proofs.Trees.{tree_kept}
+use Rattle.xd_syntax.proofs.TableRows.{KeepsRows-length, KeepsRows-tree}
 use Rattle.xd_same_types.specs.Same.{Meaning, FitsAs, HasTops, trees}
-use Rattle.xd_same_types.proofs.Ids.{default_free, take_read}
-use Rattle.xd_same_types.proofs.Tables.{all_with, map_numbers}
+use Rattle.xd_same_types.proofs.Ids.{take_read}
+use Rattle.xd_same_types.proofs.Tables.{map_numbers}
 use Rattle.xd_shown.specs.Bodies.{AreMeant}
 use Rattle.xd_named_parts.specs.Copies.{Alike, AllCopied, AreBare, AreCopies, AreNoCopies, CopiesBelong, GrowsCopies, IsFormCopy, IsMeantCopy, IsNodeCopy, MeansEach, StandForNodes, StandsForNode, TakesAll, copy_in}
 use Rattle.xd_named_parts.proofs.AlikeLaws.{alike_elem, alike_seqs, alike_alts, alike_star, alike_plus, alike_opt, bare_seqs, bare_alts}
 
--- ---- tables that grow
-pub rows_then : (a b c : List Row) → KeepsRows a b → KeepsRows b c → KeepsRows a c
-rows_then a b c k l = record { more = k.more ++ l.more; grown = l.grown ∙ ap (λ xs. xs ++ l.more) k.grown ∙ append_assoc a k.more l.more }
-
-pub rows_length : (a b : List Row) → KeepsRows a b → length a ≤ length b
-rows_length a b k = let e : length b ≡ length (a ++ k.more) = ap length k.grown in omega (arith, length-append a k.more)
-
-pub rows_at : (a b : List Row) → KeepsRows a b → (i : ℕ) → i < length a → tree_at b i ≡ tree_at a i
-rows_at a b k i h = subst (λ xs. tree_at xs i ≡ tree_at a i) (sym k.grown) (tree_kept a k.more i h)
-
 pub copies_kept : (N M : Meaning) (old mid new : List Row) (table : List (Option TypeId)) → KeepsRows mid new → CopiesBelong mid table → AreCopies N M old mid table → AreCopies N M old new table
-copies_kept N M old mid new table k b h = λ i id e. subst (λ T. Alike N M (tree_at old i) T) (sym (rows_at mid new k id.at (b i id e))) (h i id e)
+copies_kept N M old mid new table k b h = λ i id e. subst (λ T. Alike N M (tree_at old i) T) (sym (KeepsRows-tree mid new k id.at (b i id e))) (h i id e)
 
 pub belong_kept : (mid new : List Row) (table : List (Option TypeId)) → KeepsRows mid new → CopiesBelong mid table → CopiesBelong new table
-belong_kept mid new table k b = λ i id e. let l = rows_length mid new k in let m = b i id e in omega arith
+belong_kept mid new table k b = λ i id e. let l = KeepsRows-length mid new k in let m = b i id e in omega arith
 
 pub bare_kept : (mid new : List Row) (table : List (Option TypeId)) → KeepsRows mid new → CopiesBelong mid table → AreBare mid table → AreBare new table
-bare_kept mid new table k b h = λ i id e. subst (λ T. HasTops (any_word ∷ []) T) (sym (rows_at mid new k id.at (b i id e))) (h i id e)
+bare_kept mid new table k b h = λ i id e. subst (λ T. HasTops (any_word ∷ []) T) (sym (KeepsRows-tree mid new k id.at (b i id e))) (h i id e)
 
 pub grows_refl : (P : Meaning → Meaning → Type 0) (old mid : List Row) (table : List (Option TypeId)) → GrowsCopies P old mid table mid table
 grows_refl P old mid table = record { count = refl; right = λ N M p h. h; belong = λ h. h }
@@ -214,13 +206,13 @@ node_by_name old words bodies i inner mid w id e c h = record { same = same; bel
     body = get_or bodies h.place id
 
     is_body : body ≡ get_or bodies h.place body
-    is_body = default_free bodies h.place id body h.there
+    is_body = same_at bodies h.place id body h.there
 
     at_body : copy_in inner body.at ≡ Some id
     at_body = h.copy body is_body
 
     named : get_or words h.place [] ≡ w
-    named = default_free words h.place [] w h.within ∙ h.name
+    named = same_at words h.place [] w h.within ∙ h.name
 
     same : (N M : Meaning) → AreMeant N old words bodies → MeansEach M → AreCopies N M old mid inner → AreCopies N M old mid inner → Alike N M (tree_at old i) (tree_at mid id.at)
     same N M m a t k d =
@@ -242,11 +234,8 @@ no_copy n table h i id e = let f = go table i h.none in let g : None ≡ Some id
 pub copied_step : (table : List (Option TypeId)) (ps qs : List TypeId) (k : ℕ) (p q : TypeId) → k < length ps → p ≡ get_or ps k p → AllCopied table (take k ps) qs → copy_in table p.at ≡ Some q → AllCopied table (take (k + 1) ps) (qs ++ q ∷ [])
 copied_step table ps qs k p q l e h c = subst (λ xs. AllCopied table xs (qs ++ q ∷ [])) (sym (take_read ps k p l e)) (copied_more table (take k ps) qs p q h c)
 
-pub all_step : {A : Type 0} (P : A → Type 0) (xs : List A) (k : ℕ) (x : A) → k < length xs → x ≡ get_or xs k x → AllByRecursion P (take k xs) → P x → AllByRecursion P (take (k + 1) xs)
-all_step P xs k x l e h p = subst (AllByRecursion P) (sym (take_read xs k x l e)) (all_with P (take k xs) x h p)
-
 pub none_step : (n : ℕ) (table : List (Option TypeId)) → AreNoCopies n table → AreNoCopies (n + 1) (table ++ None ∷ [])
-none_step n table h = record { count = length-append table (None ∷ []) ∙ ap (λ m. m + 1) h.count; none = all_with (λ o. o ≡ None) table None h.none refl }
+none_step n table h = record { count = length-append table (None ∷ []) ∙ ap (λ m. m + 1) h.count; none = all_push (λ o. o ≡ None) table None h.none refl }
 
 -- a node gets a name
 pub named_set : (old mid new : List Row) (table : List (Option TypeId)) (w : List ℕ) (n id : TypeId) → KeepsRows mid new → CopiesBelong mid table → n.at < length table → tree_at new id.at ≡ Name w → BelongsTo new id →
@@ -258,31 +247,18 @@ named_set old mid new table w n id k b l e belongs =
 pub name_among : (old : List Row) (names : List (List ℕ)) (named : List TypeId) (k : ℕ) (w : List ℕ) (id : TypeId) → k < length named → w ≡ get_or names k w → id ≡ get_or named k id → (N M : Meaning) → StandForNodes old names named N M → StandsForNode old w id.at N M
 name_among old names named k w id l e f N M h = h k w id l e f
 
-pub some_holds : {A : Type 0} (P : A → Type 0) (o : Option A) (x : A) → o ≡ Some x → IfSome o P → P x
-some_holds P None x e h = cc
-some_holds P (Some y) x e h = let f : y ≡ x = cc in subst P f h
-
-pub some_map : {A : Type 0} (o : Option A) (P Q : A → Type 0) → ((x : A) → P x → Q x) → IfSome o P → IfSome o Q
-some_map None P Q f h = tt
-some_map (Some x) P Q f h = f x h
-
 pub ok_some_map : {A E : Type 0} (r : Result (Option A) E) (P Q : A → Type 0) → ((x : A) → P x → Q x) → IfOk r (λ o. IfSome o P) → IfOk r (λ o. IfSome o Q)
 ok_some_map (Ok o) P Q f h = some_map o P Q f h
 ok_some_map (Err e) P Q f h = tt
-
-pub all_there : {A : Type 0} (P : A → Type 0) (xs : List A) (k : ℕ) (x : A) → AllByRecursion P xs → k < length xs → x ≡ get_or xs k x → P x
-all_there P [] k x h l e = absurd (omega arith)
-all_there P (y ∷ ys) zero x h l e = subst P (sym e) h.0
-all_there P (y ∷ ys) (suc k) x h l e = let m : k < length ys = omega arith in all_there P ys k x h.1 m e
 
 -- the same where the table has grown
 pub node_by_name_grown : (old : List Row) (words : List (List ℕ)) (bodies : List TypeId) (i : ℕ) (inner : List (Option TypeId)) (mid new : List Row) (w : List ℕ) (id : TypeId) →
     tree_at old i ≡ Name w → KeepsRows mid new → CopiesBelong mid inner → IsMeantCopy words bodies inner w id → IsNodeCopy old words bodies i inner inner mid new id
 node_by_name_grown old words bodies i inner mid new w id e k c h =
     let it = node_by_name old words bodies i inner mid w id e c h in
-    let l = rows_length mid new k in
+    let l = KeepsRows-length mid new k in
     let b = it.belongs in
     record {
-      same = λ N M m a t u. subst (λ T. Alike N M (tree_at old i) T) (sym (rows_at mid new k id.at b)) (it.same N M m a t u);
+      same = λ N M m a t u. subst (λ T. Alike N M (tree_at old i) T) (sym (KeepsRows-tree mid new k id.at b)) (it.same N M m a t u);
       belongs = omega arith;
     }

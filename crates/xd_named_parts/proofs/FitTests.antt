@@ -1,26 +1,15 @@
 -- Whether a document fits a type, as a test, where names mean tests.
-use Rattle.std.proofs.Common.{◌≡◌, ◌⊎◌, ◌↔◌, inl, inr, ℕ, zero, suc, ◌<◌, Bool, true, false, not, ◌&&◌, ◌||◌, refl, ap, subst, arith}
-use Rattle.std.proofs.lemmas.Bool.{and_parts, and_from}
+use Rattle.std.proofs.Common.{◌≡◌, ◌↔◌, inl, inr, ℕ, zero, suc, ◌<◌, Bool, true, false, not, ◌&&◌, ◌||◌, refl, ap, subst, arith}
+use Rattle.std.proofs.lemmas.Bool.{and_parts, and_from, or_left, or_right}
 use Rattle.xd_doc.specs.Document.{Document, empty, text, element, join, has_item}
 use Rattle.xd_doc.specs.DocumentCode.{breadth}
 use Rattle.xd_doc.specs.Classes.{LabelClass, TextClass, class_has}
+use Rattle.xd_doc.proofs.Bools.{or_cases}
 use Rattle.xd_syntax.specs.Tree.{Tree, Empty, Text, Words, Name, Elem, Seq, Alt, Star, Plus, Opt, Val}
 use Rattle.xd_syntax.specs.Fits.{Split}
 use Rattle.xd_meaning.specs.FitsWithin.{Repeats, no_turn, one_turn, IsOneText, IsOneOf, IsOneElement}
 use Rattle.xd_same_types.specs.Same.{Meaning, FitsAs}
 use Rattle.xd_same_types.proofs.Splits.{breadth_less, split_map, rep_map}
-
-or_cases : (a b : Bool) → (a || b) ≡ true → (a ≡ true) ⊎ (b ≡ true)
-or_cases true b e = inl refl
-or_cases false b e = inr e
-
-or_left : (a b : Bool) → a ≡ true → (a || b) ≡ true
-or_left true b e = refl
-or_left false b e = cc
-
-or_other : (a b : Bool) → b ≡ true → (a || b) ≡ true
-or_other true b e = refl
-or_other false b e = e
 
 -- the set of a test
 abbrev pub Passes : (Document → Bool) → Document → Type 0
@@ -47,8 +36,8 @@ split_joined : (P Q : Document → Bool) (a b : Document) → P a ≡ true → Q
 split_joined P Q empty empty p q = and_from (P empty) (Q empty) p q
 split_joined P Q empty (text s r) p q = or_left (P empty && Q (text s r)) (split_test (λ a. P (text s a)) Q r) (and_from (P empty) (Q (text s r)) p q)
 split_joined P Q empty (element l c r) p q = or_left (P empty && Q (element l c r)) (split_test (λ a. P (element l c a)) Q r) (and_from (P empty) (Q (element l c r)) p q)
-split_joined P Q (text s a) b p q = or_other (P empty && Q (text s (join a b))) (split_test (λ x. P (text s x)) Q (join a b)) (split_joined (λ x. P (text s x)) Q a b p q)
-split_joined P Q (element l c a) b p q = or_other (P empty && Q (element l c (join a b))) (split_test (λ x. P (element l c x)) Q (join a b)) (split_joined (λ x. P (element l c x)) Q a b p q)
+split_joined P Q (text s a) b p q = or_right (P empty && Q (text s (join a b))) (split_test (λ x. P (text s x)) Q (join a b)) (split_joined (λ x. P (text s x)) Q a b p q)
+split_joined P Q (element l c a) b p q = or_right (P empty && Q (element l c (join a b))) (split_test (λ x. P (element l c x)) Q (join a b)) (split_joined (λ x. P (element l c x)) Q a b p q)
 
 split_tested : (P Q : Document → Bool) (d : Document) → Split (Passes P) (Passes Q) d → split_test P Q d ≡ true
 split_tested P Q d h = subst (λ x. split_test P Q x ≡ true) h.2 (split_joined P Q h.0 h.1 h.3 h.4)
@@ -83,7 +72,7 @@ turns_tested P (suc n) {d} l (one_turn a b e i p r) =
     let k : breadth b < breadth (join a b) = breadth_less a b i in
     let j : breadth (join a b) ≡ breadth d = ap breadth e in
     let m : breadth b < n = omega arith in
-    or_other (not (has_item d)) (split_test (item_test P) (turns_test P n) d)
+    or_right (not (has_item d)) (split_test (item_test P) (turns_test P n) d)
     (split_tested (item_test P) (turns_test P n) d (a, b, e, and_from (has_item a) (P a) i p, turns_tested P n m r))
 
 abbrev rep_test : (Document → Bool) → Document → Bool
@@ -163,7 +152,7 @@ fit_tests N (Seq T U) d =
     )
 fit_tests N (Alt T U) d = (
   λ e. elim (or_cases (fit_test N T d) (fit_test N U d) e) [ inl f ↦ inl ((fit_tests N T d).0 f) | inr f ↦ inr ((fit_tests N U d).0 f) ],
-  λ f. elim f [ inl g ↦ or_left (fit_test N T d) (fit_test N U d) ((fit_tests N T d).1 g) | inr g ↦ or_other (fit_test N T d) (fit_test N U d) ((fit_tests N U d).1 g) ],
+  λ f. elim f [ inl g ↦ or_left (fit_test N T d) (fit_test N U d) ((fit_tests N T d).1 g) | inr g ↦ or_right (fit_test N T d) (fit_test N U d) ((fit_tests N U d).1 g) ],
 )
 fit_tests N (Star T) d =
     let P = fit_test N T in (
@@ -178,6 +167,6 @@ fit_tests N (Plus T) d =
     )
 fit_tests N (Opt T) d = (
   λ e. elim (or_cases (not (has_item d)) (fit_test N T d) e) [ inl f ↦ inl ((none_is d).0 f) | inr f ↦ inr ((fit_tests N T d).0 f) ],
-  λ f. elim f [ inl g ↦ or_left (not (has_item d)) (fit_test N T d) ((none_is d).1 g) | inr g ↦ or_other (not (has_item d)) (fit_test N T d) ((fit_tests N T d).1 g) ],
+  λ f. elim f [ inl g ↦ or_left (not (has_item d)) (fit_test N T d) ((none_is d).1 g) | inr g ↦ or_right (not (has_item d)) (fit_test N T d) ((fit_tests N T d).1 g) ],
 )
 fit_tests N (Val x T) d = fit_tests N T d

@@ -1,17 +1,19 @@
 -- Names that stand for nodes, and definitions that say the same by them.
-use Rattle.std.proofs.Common.{◌≡◌, ◌↔◌, ℕ, zero, suc, ◌<◌, Bool, true, false, cond, arith, refl, sym, ap, ◌∙◌, subst, List, [], ◌∷◌, length, get_or, Option, Some, Result, Ok, Err}
+use Rattle.std.proofs.Common.{◌≡◌, ◌↔◌, ℕ, zero, suc, ◌<◌, Bool, true, false, cond, arith, refl, sym, ap, ◌∙◌, subst, List, [], ◌∷◌, length, get_or, Option, Some}
 use Rattle.std.specs.Str.{bytes_eq}
-use Rattle.std.specs.Prelude.{slice_get, ◌||◌}
-use Rattle.std.specs.Result.{IfOk}
+use Rattle.std.specs.Prelude.{slice_get}
 use Rattle.std.specs.List.{AllByRecursion}
 use Rattle.std.proofs.lemmas.Slice.Eq.{bytes_eq-Decides}
+use Rattle.std.proofs.lemmas.Bool.{or_left}
 use Rattle.xd_doc.specs.Document.{Document}
+use Rattle.xd_doc.proofs.Lists.{same_at, word_equals, first_at}
+use Rattle.xd_doc.proofs.Bools.{cond_true, cond_false, or_second}
 use Rattle.xd_syntax.specs.Words.{any_word, has_word}
 use Rattle.xd_syntax.specs.Table.{Row, tree_at}
 use Rattle.xd_syntax.specs.declared.types.TypeId.{TypeId}
 use Rattle.xd_same_types.specs.Grown.{NamesAmong}
 use Rattle.xd_same_types.specs.Same.{Meaning, FitsAs, HasTops}
-use Rattle.xd_same_types.proofs.Ids.{default_free, got}
+use Rattle.xd_same_types.proofs.Ids.{got}
 use Rattle.xd_syntax.specs.Program.{ProgramTree}
 use Rattle.xd_shown.specs.Bodies.{AreBodies, AreMeant, HasProper, ShowsMeanings}
 use Rattle.xd_shown.proofs.AreMeantLemmas.{same_set}
@@ -34,17 +36,6 @@ stands_for N old (x ∷ xs) (i ∷ is) w d = cond (bytes_eq x w) (fit_test N (tr
 abbrev pub meaning_of : Meaning → List Row → List (List ℕ) → List TypeId → Meaning
 meaning_of N old names named w d = cond (bytes_eq any_word w) true (stands_for N old names named w d)
 
-cond_true : (b x y : Bool) → b ≡ true → cond b x y ≡ x
-cond_true true x y e = refl
-cond_true false x y e = cc
-
-cond_false : (b x y : Bool) → b ≡ false → cond b x y ≡ y
-cond_false true x y e = cc
-cond_false false x y e = refl
-
-same_word : (x w : List ℕ) → x ≡ w → bytes_eq x w ≡ true
-same_word x w e = (bytes_eq-Decides x w).1 e
-
 other_word : (x w : List ℕ) → (x ≡ w → ⊥) → bytes_eq x w ≡ false
 other_word x w f = go (bytes_eq x w) refl
   where
@@ -52,20 +43,12 @@ other_word x w f = go (bytes_eq x w) refl
     go true e = absurd (f ((bytes_eq-Decides x w).0 e))
     go false e = e
 
-or_right : (a : Bool) {b : Bool} → b ≡ true → (a || b) ≡ true
-or_right true e = refl
-or_right false e = e
-
-or_left : (a b : Bool) → a ≡ true → (a || b) ≡ true
-or_left true b e = refl
-or_left false b e = cc
-
 pub has_there : (ws : List (List ℕ)) (k : ℕ) (w : List ℕ) → k < length ws → w ≡ get_or ws k w → has_word ws w ≡ true
 has_there [] k w l e = absurd (omega arith)
-has_there (x ∷ xs) zero w l e = or_left (bytes_eq x w) (has_word xs w) (same_word x w (sym e))
-has_there (x ∷ xs) (suc k) w l e = let m : k < length xs = omega arith in or_right (bytes_eq x w) (has_there xs k w m e)
+has_there (x ∷ xs) zero w l e = or_left (bytes_eq x w) (has_word xs w) (word_equals x w (sym e))
+has_there (x ∷ xs) (suc k) w l e = let m : k < length xs = omega arith in or_second (bytes_eq x w) (has_there xs k w m e)
 
-lacks_there : (ws : List (List ℕ)) (k : ℕ) (w v : List ℕ) → has_word ws v ≡ false → k < length ws → w ≡ get_or ws k w → v ≡ w → ⊥
+pub lacks_there : (ws : List (List ℕ)) (k : ℕ) (w v : List ℕ) → has_word ws v ≡ false → k < length ws → w ≡ get_or ws k w → v ≡ w → ⊥
 lacks_there ws k w v n l e f = let h : has_word ws v ≡ true = subst (λ u. has_word ws u ≡ true) (sym f) (has_there ws k w l e) in let g : true ≡ false = sym h ∙ n in cc
 
 stands_there : (N : Meaning) (old : List Row) (names : List (List ℕ)) (named : List TypeId) (k : ℕ) (w : List ℕ) (id : TypeId) (d : Document) → AreDistinct names → length names ≡ length named → k < length named → w ≡ get_or names k w → id ≡ get_or named k id →
@@ -74,7 +57,7 @@ stands_there N old [] [] k w id d g n l e f = absurd (omega arith)
 stands_there N old [] (y ∷ ys) k w id d g n l e f = absurd (omega arith)
 stands_there N old (x ∷ xs) [] k w id d g n l e f = absurd (omega arith)
 stands_there N old (x ∷ xs) (y ∷ ys) zero w id d g n l e f =
-    cond_true (bytes_eq x w) (fit_test N (tree_at old y.at) d) (stands_for N old xs ys w d) (same_word x w (sym e)) ∙ ap (λ (i : TypeId). fit_test N (tree_at old i.at) d) (sym f)
+    cond_true (bytes_eq x w) (fit_test N (tree_at old y.at) d) (stands_for N old xs ys w d) (word_equals x w (sym e)) ∙ ap (λ (i : TypeId). fit_test N (tree_at old i.at) d) (sym f)
 stands_there N old (x ∷ xs) (y ∷ ys) (suc k) w id d g n l e f =
     let m : length xs ≡ length ys = omega arith in
     let i : k < length ys = omega arith in
@@ -102,10 +85,6 @@ all_bare rows table [] [] b h = tt
 all_bare rows table [] (y ∷ qs) b h = absurd h
 all_bare rows table (x ∷ ps) [] b h = absurd h
 all_bare rows table (x ∷ ps) (y ∷ qs) b h = (b x.at y h.0, all_bare rows table ps qs b h.1)
-
-first_word : (words : List (List ℕ)) (w : List ℕ) → slice_get words 0 ≡ Some w → w ≡ get_or words 0 w
-first_word [] w e = cc
-first_word (x ∷ xs) w e = cc
 
 module _ (D E : Definitions) (taken : List (List ℕ)) (named : List TypeId) (given : AreDefinitions D) (plan : IsPlan D.pool.types D.bodies.items named) (new : AreNewNames E.names.items) (in_order : AreNamedFrom taken 1 E.names.items) (count : length E.names.items ≡ length named)
     (r0 r1 r2 : List Row) (inner0 inner1 inner2 plain0 plain1 : List (Option TypeId)) (n : ℕ) (none_inner : AreNoCopies n inner0) (none_plain : AreNoCopies n plain0)
@@ -173,9 +152,9 @@ module _ (D E : Definitions) (taken : List (List ℕ)) (named : List TypeId) (gi
         let each = given.bodies.each in
         let b : TypeId = get_or D.bodies.items 0 (record { at = 0 }) in
         let at_b = got D.bodies.items 0 (record { at = 0 }) (omega arith) in
-        let s = stand 0 y b some (first_word names y ey) (sym (plan.first b at_b)) d in
+        let s = stand 0 y b some (first_at names y ey) (sym (plan.first b at_b)) d in
         let g = m.each 0 b there at_b d in
-        let w : get_or D.names.items 0 [] ≡ x = default_free D.names.items 0 [] x there ∙ sym (first_word D.names.items x ex) in
+        let w : get_or D.names.items 0 [] ≡ x = same_at D.names.items 0 [] x there ∙ sym (first_at D.names.items x ex) in
         (λ h. subst (λ v. N v d ≡ true) w (g.1 (s.0 h)), λ h. s.1 (g.0 (subst (λ v. N v d ≡ true) (sym w) h)))
 
   pub are_shorter : AreShorter taken D E
@@ -207,8 +186,4 @@ given_shown taken D P start in_order e shows N x m ex proper =
 
 -- each of the names is known
 pub known_there : (names : List (List ℕ)) (k : ℕ) (w : List ℕ) → k < length names → w ≡ get_or names k w → has_word (any_word ∷ names) w ≡ true
-known_there names k w l e = or_right (bytes_eq any_word w) (has_there names k w l e)
-
-pub ok_both : {T E : Type 0} (r : Result T E) (P Q R : T → Type 0) → ((x : T) → P x → Q x → R x) → IfOk r P → IfOk r Q → IfOk r R
-ok_both (Ok x) P Q R f p q = f x p q
-ok_both (Err e) P Q R f p q = tt
+known_there names k w l e = or_second (bytes_eq any_word w) (has_there names k w l e)

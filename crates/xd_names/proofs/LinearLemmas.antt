@@ -1,9 +1,10 @@
 -- Occurrences that aren't linear, part by part, for any lists with the same words.
-use Rattle.std.proofs.Common.{◌≡◌, ℕ, ◌≤◌, arith, Bool, true, false, not, cond, ◌&&◌, ◌||◌, List, [], ◌∷◌, ◌++◌, map, flat_map, length, take, drop, refl, ap, sym, ◌∙◌, subst, append-nil, append_assoc, take-append-drop}
+use Rattle.std.proofs.Common.{◌≡◌, ℕ, ◌≤◌, arith, Bool, true, false, not, ◌&&◌, ◌||◌, List, [], ◌∷◌, ◌++◌, map, flat_map, length, take, drop, refl, ap, sym, ◌∙◌, subst, append-nil, append_assoc, take-append-drop}
 use Rattle.std.specs.List.{filter, list_all, AllByRecursion}
 use Rattle.std.specs.Str.{bytes_eq}
-use Rattle.std.proofs.lemmas.Slice.Eq.{bytes_eq-Decides}
 use Rattle.xd_base.specs.declared.Place.{Place}
+use Rattle.xd_doc.proofs.Bools.{and_with_true}
+use Rattle.xd_doc.proofs.SortedNames.{or_false}
 use Rattle.xd_syntax.specs.Words.{has_word}
 use Rattle.xd_syntax.specs.TreeForms.{is_alt}
 use Rattle.xd_syntax.specs.Table.{Row, CanFollow, alt_form, IsAltPart, tree_at}
@@ -16,26 +17,13 @@ use Rattle.xd_syntax.proofs.PlacedTrees.{unplaced_at}
 use Rattle.xd_syntax.proofs.Trees.{tree_kept}
 use Rattle.std.proofs.lemmas.List.{length-map}
 use Rattle.std.proofs.lemmas.List.Folds.{list_all-map}
+use Rattle.xd_syntax.proofs.NotLinear.{has_word_both}
+use Rattle.xd_syntax.proofs.Words.{filter_at}
 use Rattle.xd_names.proofs.TreeLemmas.{variables_alt}
 
 -- the same words
 abbrev pub Same : List (List ℕ) → List (List ℕ) → Type 0
 Same xs ys = (w : List ℕ) → has_word xs w ≡ has_word ys w
-
-or_assoc : (a b c : Bool) → ((a || b) || c) ≡ (a || (b || c))
-or_assoc true b c = refl
-or_assoc false b c = refl
-
-pub has_word-append : (xs ys : List (List ℕ)) (w : List ℕ) → has_word (xs ++ ys) w ≡ (has_word xs w || has_word ys w)
-has_word-append [] ys w = refl
-has_word-append (x ∷ xs) ys w = ap (λ b. bytes_eq x w || b) (has_word-append xs ys w) ∙ sym (or_assoc (bytes_eq x w) (has_word xs w) (has_word ys w))
-
-filter_at : (p : List ℕ → Bool) (x w : List ℕ) (xs : List (List ℕ)) → has_word (filter p xs) w ≡ (p w && has_word xs w) → (a b : Bool) → p x ≡ a → bytes_eq x w ≡ b →
-    has_word (cond a (x ∷ filter p xs) (filter p xs)) w ≡ (p w && (b || has_word xs w))
-filter_at p x w xs i true true e h = let s : x ≡ w = (bytes_eq-Decides x w).0 h in let f : p w ≡ true = ap p (sym s) ∙ e in rw (h, f) refl
-filter_at p x w xs i true false e h = rw h i
-filter_at p x w xs i false true e h = let s : x ≡ w = (bytes_eq-Decides x w).0 h in let f : p w ≡ false = ap p (sym s) ∙ e in i ∙ rw f refl
-filter_at p x w xs i false false e h = i
 
 pub has_word-filter : (p : List ℕ → Bool) (xs : List (List ℕ)) (w : List ℕ) → has_word (filter p xs) w ≡ (p w && has_word xs w)
 has_word-filter p [] w = and_false (p w)
@@ -49,7 +37,7 @@ pub has_word-without : (gone xs : List (List ℕ)) (w : List ℕ) → has_word (
 has_word-without gone xs w = has_word-filter (λ x. not (has_word gone x)) xs w
 
 pub same_append : (xs ys zs : List (List ℕ)) → Same ys zs → Same (xs ++ ys) (xs ++ zs)
-same_append xs ys zs h w = has_word-append xs ys w ∙ ap (λ b. has_word xs w || b) (h w) ∙ sym (has_word-append xs zs w)
+same_append xs ys zs h w = has_word_both xs ys w ∙ ap (λ b. has_word xs w || b) (h w) ∙ sym (has_word_both xs zs w)
 
 pub same_without : (gone xs ys : List (List ℕ)) → Same xs ys → Same (without gone xs) (without gone ys)
 same_without gone xs ys h w = has_word-without gone xs w ∙ ap (λ b. not (has_word gone w) && b) (h w) ∙ sym (has_word-without gone ys w)
@@ -158,12 +146,8 @@ in_one w (Plus_at p T) n = refl
 in_one w (Opt_at p T) n = refl
 in_one w (Val_at p x z T) n = refl
 
-and_true : (b : Bool) → b ≡ (b && true)
-and_true true = refl
-and_true false = refl
-
 in_each : (w : List ℕ) (p : Place) (t : PlacedTree) (ts : List PlacedTree) → NoAlts (t ∷ ts) → in_each_branch w (placed_alt p (t ∷ ts)) ≡ list_all (λ u. has_word (variables u) w) (t ∷ ts)
-in_each w p t [] n = in_one w t n.0 ∙ and_true (has_word (variables t) w)
+in_each w p t [] n = in_one w t n.0 ∙ and_with_true (has_word (variables t) w)
 in_each w p t (u ∷ us) n = ap (λ b. has_word (variables t) w && b) (in_each w (place_of u) u us n.1)
 
 -- the words that some branch lacks
@@ -183,10 +167,6 @@ parts_no_alts rows n h (i ∷ is) a =
 pub no_alts : (rows : List Row) (n : ℕ) (is : List ℕ) → n ≤ length rows → CanFollow true (take n rows) (alt_form is) → NoAlts (map (placed_at rows) is)
 no_alts rows n is h a = parts_no_alts rows n h is a.1
 
-or_false : (b : Bool) → (b || false) ≡ b
-or_false true = refl
-or_false false = refl
-
 or_comm : (a b : Bool) → (a || b) ≡ (b || a)
 or_comm true true = refl
 or_comm true false = refl
@@ -203,14 +183,14 @@ none_of false false c = refl
 pub partial_more : (vs rest p q : List (List ℕ)) (w : List ℕ) → has_word q w ≡ (not (has_word vs w) && has_word p w) →
     (not (has_word rest w) && has_word q w) ≡ (not (has_word (vs ++ rest) w) && has_word p w)
 partial_more vs rest p q w h =
-    ap (λ b. not (has_word rest w) && b) h ∙ none_of (has_word rest w) (has_word vs w) (has_word p w) ∙ ap (λ b. not b && has_word p w) (sym (has_word-append vs rest w))
+    ap (λ b. not (has_word rest w) && b) h ∙ none_of (has_word rest w) (has_word vs w) (has_word p w) ∙ ap (λ b. not b && has_word p w) (sym (has_word_both vs rest w))
 
 pub partial_val : (x : List ℕ) (vs p q o : List (List ℕ)) (w : List ℕ) → has_word q w ≡ (not (bytes_eq x w) && has_word p w) → has_word o w ≡ (not (has_word vs w) && has_word q w) →
     has_word o w ≡ (not (has_word (x ∷ vs) w) && has_word p w)
 partial_val x vs p q o w h k = k ∙ ap (λ b. not (has_word vs w) && b) h ∙ none_of (has_word vs w) (bytes_eq x w) (has_word p w)
 
 pub same_turned : (e vs : List (List ℕ)) → Same (e ++ vs) (vs ++ e)
-same_turned e vs w = has_word-append e vs w ∙ or_comm (has_word e w) (has_word vs w) ∙ sym (has_word-append vs e w)
+same_turned e vs w = has_word_both e vs w ∙ or_comm (has_word e w) (has_word vs w) ∙ sym (has_word_both vs e w)
 
 pub val_faults : (r : Bool) (e p q : List (List ℕ)) (x : List ℕ) (T : PlacedTree) → ((w : List ℕ) → has_word q w ≡ (not (bytes_eq x w) && has_word p w)) →
     not_linear r (e ++ x ∷ []) q false T ≡ not_linear r (x ∷ e) (without (x ∷ []) p) false T
@@ -249,7 +229,7 @@ alt_all r e p q t pl is l n h =
     (ap (λ b. not b && has_word (flat_map (λ i. variables (t i)) is) w) (sym (list_all-map (λ u. has_word (variables u) w) t is))
     ∙ ap (λ vs. not (list_all (λ u. has_word (variables u) w) (map t is)) && has_word vs w) (sym (variables_alt t pl is))
     ∙ sym (has_word-lacking w pl (map t is) two n))
-    ∙ sym (has_word-append (lacking_somewhere (placed_alt pl (map t is))) p w))
+    ∙ sym (has_word_both (lacking_somewhere (placed_alt pl (map t is))) p w))
     ∙ sym (not_linear-alt r e p pl (map t is) two n)
 
 -- words that are in every branch are no branch's lack
@@ -258,7 +238,3 @@ lacked true true = refl
 lacked true false = refl
 lacked false true = refl
 lacked false false = refl
-
-pub take_front : {X : Type 0} (xs ys : List X) → take (length xs) (xs ++ ys) ≡ xs
-take_front [] ys = refl
-take_front (x ∷ xs) ys = ap (λ zs. x ∷ zs) (take_front xs ys)

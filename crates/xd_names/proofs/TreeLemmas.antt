@@ -1,8 +1,9 @@
 -- What is read from the nodes of lists of parts.
-use Rattle.std.proofs.Common.{◌≡◌, ℕ, zero, suc, ◌+◌, ◌<◌, ◌≤◌, arith, Bool, Bor, length, drop, get_or, append_assoc, subst, List, [], ◌∷◌, ◌++◌, map, flat_map, refl, ap, sym, ◌∙◌, append-nil}
+use Rattle.std.proofs.Common.{◌≡◌, ℕ, ◌+◌, ◌<◌, ◌≤◌, Bool, Bor, length, drop, get_or, append_assoc, subst, List, [], ◌∷◌, ◌++◌, map, flat_map, refl, ap, sym, ◌∙◌, append-nil}
 use Rattle.std.proofs.lemmas.List.Folds.{flat_map-map}
 use Rattle.std.specs.List.{AllByRecursion}
 use Rattle.xd_base.specs.declared.Place.{Place}
+use Rattle.xd_doc.proofs.Lists.{drop_past}
 use Rattle.xd_syntax.specs.Placed.{PlacedTree, place_of, placed_seq, placed_alt, variables}
 use Rattle.xd_syntax.specs.PlacedTable.{placed_form, placed_at}
 use Rattle.xd_syntax.specs.Table.{Row}
@@ -11,6 +12,7 @@ use Rattle.xd_syntax.specs.Nodes.{IsNode, form_parts, view_form}
 use Rattle.xd_syntax.specs.declared.nodes.FormView.{FormView}
 use Rattle.xd_syntax.specs.declared.nodes.FormView.TheVariants.{Empty, Text, Words, Name, Elem, Seq, Alt, Star, Plus, Opt, Val}
 use Rattle.xd_syntax.specs.NameFaults.{unknown_types}
+use Rattle.xd_syntax.proofs.PlacedTrees.{variables_in_seq, variables_in_alt}
 use Rattle.xd_names.proofs.WordLemmas.{drop_at, drop_item}
 
 unknown_in_seq : (known : List (List ℕ)) (p : Place) (ts : List PlacedTree) → unknown_types known (placed_seq p ts) ≡ flat_map (unknown_types known) ts
@@ -28,16 +30,6 @@ unknown_seq known t p is = unknown_in_seq known p (map t is) ∙ flat_map-map (u
 
 pub unknown_alt : (known : List (List ℕ)) (t : ℕ → PlacedTree) (p : Place) (is : List ℕ) → unknown_types known (placed_alt p (map t is)) ≡ flat_map (λ i. unknown_types known (t i)) is
 unknown_alt known t p is = unknown_in_alt known p (map t is) ∙ flat_map-map (unknown_types known) t is
-
-variables_in_seq : (p : Place) (ts : List PlacedTree) → variables (placed_seq p ts) ≡ flat_map variables ts
-variables_in_seq p [] = refl
-variables_in_seq p (t ∷ []) = sym (append-nil (variables t))
-variables_in_seq p (t ∷ (u ∷ us)) = ap (λ xs. variables t ++ xs) (variables_in_seq (place_of u) (u ∷ us))
-
-variables_in_alt : (p : Place) (ts : List PlacedTree) → variables (placed_alt p ts) ≡ flat_map variables ts
-variables_in_alt p [] = refl
-variables_in_alt p (t ∷ []) = sym (append-nil (variables t))
-variables_in_alt p (t ∷ (u ∷ us)) = ap (λ xs. variables t ++ xs) (variables_in_alt (place_of u) (u ∷ us))
 
 pub variables_seq : (t : ℕ → PlacedTree) (p : Place) (is : List ℕ) → variables (placed_seq p (map t is)) ≡ flat_map (λ i. variables (t i)) is
 variables_seq t p is = variables_in_seq p (map t is) ∙ flat_map-map variables t is
@@ -75,12 +67,6 @@ variables_of_parts at t p (Plus i) other = sym (append-nil (variables (t (at i))
 variables_of_parts at t p (Opt i) other = sym (append-nil (variables (t (at i))))
 variables_of_parts at t p (Val x q i) other = absurd (other x q i refl)
 
-pub drop_past : {X : Type 0} (xs : List X) (i : ℕ) → length xs ≤ i → drop i xs ≡ []
-drop_past [] zero h = refl
-drop_past [] (suc i) h = refl
-drop_past (x ∷ xs) zero h = absurd (omega arith)
-drop_past (x ∷ xs) (suc i) h = drop_past xs i (omega arith)
-
 -- the end of a loop over parts
 pub parts_done : {X Y Z : Type 0} (n : X → Z) (g : Z → List Y) (made old : List Y) (xs : List X) (i : ℕ) → length xs ≤ i →
     made ++ flat_map g (map n (drop i xs)) ≡ old ++ flat_map g (map n xs) → made ≡ old ++ flat_map g (map n xs)
@@ -106,11 +92,6 @@ variables_done at b rows i p f xs n made old node e other h loop =
     ∙ ap (λ vs. old ++ vs) (ap (flat_map (λ j. variables (placed_at rows j))) e
     ∙ sym (ap variables node.placed ∙ variables_of_parts at (placed_at rows) p f other))
 
--- parts of a node are parts of the table
-pub below_more : (m n : ℕ) → m ≤ n → (is : List ℕ) → AllByRecursion (λ i. i < m) is → AllByRecursion (λ i. i < n) is
-below_more m n h [] a = tt
-below_more m n h (i ∷ is) a = (omega arith, below_more m n h is a.1)
-
 -- one more part of a loop that appends what each gives
 pub part_step : {X Y Z : Type 0} (n : X → Z) (g : Z → List Y) (xs : List X) (i : ℕ) (d : X) (made all : List Y) → i < length xs →
     made ++ flat_map g (map n (drop i xs)) ≡ all → (made ++ g (n (get_or xs i d))) ++ flat_map g (map n (drop (i + 1) xs)) ≡ all
@@ -131,7 +112,3 @@ item_step g xs i x made all h e k =
     append_assoc made (g x) (flat_map g (drop (i + 1) xs))
     ∙ ap (λ ys. made ++ flat_map g ys) (sym (drop_item xs i x h e))
     ∙ k
-
-pub items_step : {X : Type 0} (P : X → Type 0) (xs : List X) (i : ℕ) (x : X) → i < length xs → x ≡ get_or xs i x → AllByRecursion P (drop i xs) →
-    P x × AllByRecursion P (drop (i + 1) xs)
-items_step P xs i x h e a = subst (AllByRecursion P) (drop_item xs i x h e) a

@@ -8,6 +8,7 @@ use Rattle.std.specs.Cmp.Lexicographic.{slice_cmp, nat_list_eq_equiv}
 use Rattle.std.specs.Str.{bytes_eq}
 use Rattle.std.proofs.lemmas.Map.Text.{is_eq-slice_cmp}
 use Rattle.std.proofs.lemmas.Slice.Eq.{bytes_eq-Decides}
+use Rattle.xd_doc.proofs.Bools.{or_true}
 use Rattle.xd_syntax.specs.Words.{has_word}
 use Rattle.xd_names.specs.Counts.{occurrences}
 
@@ -110,10 +111,6 @@ on_ok (Err x) P e h = absurd (cc)
 pub on_err : {T E : Type 0} (r : Result T E) (P : Type 0) → is_ok r ≡ false → OnErr r P → P
 on_err (Ok x) P e h = absurd (cc)
 on_err (Err x) P e h = h
-
-or_true : (b : Bool) → (b || true) ≡ true
-or_true true = refl
-or_true false = refl
 
 kept_at : (g : List ℕ → Bool) (v w : List ℕ) (m new r x : Bool) (a : Bool) → g v ≡ a → (b : Bool) → bytes_eq v w ≡ b → new ≡ cond a (b || m) m →
     (m || (g w && (b || r))) ≡ x → (new || (g w && r)) ≡ x

@@ -1,8 +1,9 @@
 -- What parameters and definitions read, and programs as their definitions are added.
-use Rattle.std.proofs.Common.{◌≡◌, ℕ, ◌<◌, ◌≤◌, arith, Bool, true, false, List, [], ◌∷◌, ◌++◌, Some, length, map, refl, sym, ap, subst, ◌∙◌, append_assoc, append-nil}
+use Rattle.std.proofs.Common.{◌≡◌, ℕ, ◌<◌, arith, Bool, true, false, List, [], ◌∷◌, ◌++◌, Some, length, map, refl, sym, ap, subst, ◌∙◌, append_assoc, append-nil}
 use Rattle.std.proofs.lemmas.List.{map-append}
 use Rattle.std.specs.List.{AllByRecursion}
 use Rattle.xd_base.specs.declared.Place.{Place}
+use Rattle.xd_doc.proofs.Lists.{all_push, all_front, all_back}
 use Rattle.xd_lex.specs.Tokens.{Lexeme}
 use Rattle.xd_syntax.specs.Placed.{PlacedTree}
 use Rattle.xd_syntax.specs.Table.{Row as NodeRow, KeepsRows}
@@ -23,19 +24,15 @@ use Rattle.xd_grammar.specs.Grammar.{Row, rules}
 use Rattle.xd_grammar.specs.Fits.{same, first_fit}
 use Rattle.xd_parse_trees.specs.Values.{Value, word, a_tree, an_expression, a_parameter, parameters, definitions, token_of}
 use Rattle.xd_parse_trees.specs.Reading.{Reads, front_terminal, front_place, front_text, behind}
+use Rattle.xd_parse_trees.proofs.StandLemmas.{kept}
 use Rattle.xd_parse.specs.Definitions.{in_front, one_type, one_function, ReadsInFront, ReadsParameters}
 use Rattle.xd_parse.specs.Grows.{Grows}
 use Rattle.xd_parse_trees.specs.Shallow.{NoDeeper, TreeWithin, ParametersWithin, DefinitionsWithin}
 use Rattle.xd_grammar.proofs.Derive.{same-true}
 use Rattle.xd_parse_trees.proofs.Kept.{IsPattern-more}
-use Rattle.xd_parse.proofs.Grown.{IsExpr-more, same_pattern, same_expression, Grows-refl}
+use Rattle.xd_parse.proofs.Grown.{IsExpr-more, same_expression, Grows-refl}
 use Rattle.xd_parse_trees.proofs.AddedDepth.{deeper_both}
 use Rattle.xd_parse_trees.proofs.Rows.{MeansView, means_view, ReadsRow, row_end, row_token, row_opening, row_closed, row_unless, row_part, part_one, part_fit, part_none}
-
--- ---- what is left after a token
-pub behind_less : (from next : List Lexeme) → next ≡ behind from → length next ≤ length from
-behind_less [] next e = let f = ap length e in omega arith
-behind_less (l ∷ ls) next e = let f = ap length e in omega arith
 
 pub behind_fewer : (from next : List Lexeme) (k : Terminal) → (t.Broken ≡ k → ⊥) → front_terminal from ≡ k → next ≡ behind from → length next < length from
 behind_fewer [] next k ne h e = absurd (ne h)
@@ -115,17 +112,13 @@ pub record Params (types : List NodeRow) (from here : List Lexeme) (ps : List Pa
   pub reads : ReadsParametersSoFar from here (map (parameter types) ps)
   pub belong : ParamsBelong types ps
 
-all_push : {X : Type 0} (P : X → Type 0) (xs : List X) (x : X) → AllByRecursion P xs → P x → AllByRecursion P (xs ++ x ∷ [])
-all_push P [] x a h = (h, tt)
-all_push P (y ∷ xs) x a h = (a.0, all_push P xs x a.1 h)
-
 pub params_more : (old new : List NodeRow) (ps : List Param) → KeepsRows old new → ParamsBelong old ps → ParamsBelong new ps
 params_more old new [] k a = tt
 params_more old new (q ∷ ps) k a = (IsPattern-more old new q.body.at k a.0, params_more old new ps k a.1)
 
 same_params : (old new : List NodeRow) (ps : List Param) → KeepsRows old new → ParamsBelong old ps → map (parameter new) ps ≡ map (parameter old) ps
 same_params old new [] k a = refl
-same_params old new (q ∷ ps) k a = let e = same_pattern old new q.body.at k a.0 in let f = same_params old new ps k a.1 in cc
+same_params old new (q ∷ ps) k a = let e = kept old new q.body.at k a.0 in let f = same_params old new ps k a.1 in cc
 
 pub first_param : (types : List NodeRow) (from here : List Lexeme) (q : Param) → Reads n.Param from here (a_parameter (parameter types q)) → BelongsTo types q.body → Params types from here (q ∷ [])
 first_param types from here q r b = record { reads = first_parameter from here (parameter types q) r; belong = (b, tt) }
@@ -143,15 +136,6 @@ last_param types from here ps h so = last_parameter from here (map (parameter ty
 -- parameters that were read stay what they were
 pub params_kept : (old new : List NodeRow) (from to : List Lexeme) (ps : List Param) → KeepsRows old new → ParamsBelong old ps → ReadsParameters from to (map (parameter old) ps) → ReadsParameters from to (map (parameter new) ps)
 params_kept old new from to ps k b r = subst (ReadsParameters from to) (sym (same_params old new ps k b)) r
-
--- ---- how deep the types of parameters are
-all_front : {X : Type 0} (P : X → Type 0) (xs ys : List X) → AllByRecursion P (xs ++ ys) → AllByRecursion P xs
-all_front P [] ys a = tt
-all_front P (x ∷ xs) ys a = (a.0, all_front P xs ys a.1)
-
-all_back : {X : Type 0} (P : X → Type 0) (xs ys : List X) → AllByRecursion P (xs ++ ys) → AllByRecursion P ys
-all_back P [] ys a = a
-all_back P (x ∷ xs) ys a = all_back P xs ys a.1
 
 parameters_apart : (old new : List NodeRow) (ps : List Param) (q : Param) (limit : ℕ) → KeepsRows old new → ParamsBelong old ps → ParametersWithin (map (parameter new) (ps ++ q ∷ [])) limit →
     ParametersWithin (map (parameter old) ps ++ parameter new q ∷ []) limit
@@ -256,7 +240,7 @@ defs_more old new (d ∷ defs) k a = (record { name = (a.0).name; body = IsPatte
 
 same_defs : (old new : List NodeRow) (defs : List TypeDef) → KeepsRows old new → AllByRecursion (TypeDefStands old) defs → map (type_definition new) defs ≡ map (type_definition old) defs
 same_defs old new [] k a = refl
-same_defs old new (d ∷ defs) k a = let e = same_pattern old new d.body.at k (a.0).body in let f = same_defs old new defs k a.1 in cc
+same_defs old new (d ∷ defs) k a = let e = kept old new d.body.at k (a.0).body in let f = same_defs old new defs k a.1 in cc
 
 functions_more : (p q : ProgramTable) (fs : List FunctionRow) → KeepsRows p.types q.types → Grows p.patterns p.exprs q.patterns q.exprs → AllByRecursion (FunctionStands p.types p.exprs) fs → AllByRecursion (FunctionStands q.types q.exprs) fs
 functions_more p q [] k g a = tt
@@ -273,7 +257,7 @@ same_functions : (p q : ProgramTable) (fs : List FunctionRow) → KeepsRows p.ty
 same_functions p q [] k g s a = refl
 same_functions p q (f ∷ fs) k g s a =
     let e1 = same_params p.types q.types f.params k (a.0).params in
-    let e2 = same_pattern p.types q.types f.declared.at k (a.0).declared in
+    let e2 = kept p.types q.types f.declared.at k (a.0).declared in
     let e3 = same_expression p.patterns p.exprs q.patterns q.exprs f.body.at g s.clauses (a.0).body in
     let e4 = same_functions p q fs k g s a.1 in cc
 

@@ -4,12 +4,13 @@ use Rattle.std.specs.List.{AllByRecursion}
 use Rattle.xd_base.specs.declared.Place.{Place}
 use Rattle.xd_syntax.specs.Placed.{PlacedTree}
 use Rattle.xd_syntax.specs.PlacedTable.{placed_at}
-use Rattle.xd_syntax.specs.Table.{Row, KeepsRows}
+use Rattle.xd_syntax.specs.Table.{Row}
 use Rattle.xd_syntax.specs.Expression.{Expression}
 use Rattle.xd_syntax.specs.ExpressionTable.{ExprRow, ExprShape, empty_shape, text_shape, var_shape, elem_shape, seq_shape, call_shape, match_shape, clauses_of, shape_expression, expression_in, expressions_after, expression_at, KeepsExprs, ShapePatternsBelong, PatternsBelong}
 use Rattle.xd_syntax.proofs.PlacedTrees.{placed_kept}
 use Rattle.xd_syntax.proofs.ExprTrees.{expression_kept}
-use Rattle.xd_parse_trees.proofs.Kept.{KeepsRows-refl, KeepsRows-trans}
+use Rattle.xd_syntax.proofs.TableRows.{KeepsRows-trans}
+use Rattle.xd_parse_trees.proofs.Kept.{KeepsRows-refl}
 use Rattle.xd_parse.specs.Grows.{Grows}
 
 -- ---- more patterns
@@ -73,10 +74,6 @@ same_expression ps es qs fs i g a h =
     ∙ expression_kept qs es g.nodes.more i h
     ∙ ap (λ xs. expression_at xs es i) g.rows.grown
     ∙ expression_patterns ps g.rows.more es i a
-
--- an old pattern stays what it was
-pub same_pattern : (ps qs : List Row) (i : ℕ) → KeepsRows ps qs → i < length ps → placed_at qs i ≡ placed_at ps i
-same_pattern ps qs i k h = ap (λ xs. placed_at xs i) k.grown ∙ placed_kept ps k.more i h
 
 -- and so do lists of them
 pub IsExprPart-more : (es fs : List ExprRow) (is : List ℕ) → KeepsExprs es fs → AllByRecursion (λ i. i < length es) is → AllByRecursion (λ i. i < length fs) is

@@ -82,10 +82,6 @@ pub joined_stays : (rs qs : List ExprRow) (is : List ℕ) → KeepsExprs rs qs �
 joined_stays rs qs [] k a = tt
 joined_stays rs qs (i ∷ is) k a = (subst (λ (xs : List ExprRow). IsJoinedPart xs i) (sym k.grown) (joined_append rs k.more i a.0), joined_stays rs qs is k a.1)
 
-pub joined_there : (rs : List ExprRow) (is : List ℕ) → AllByRecursion (IsJoinedPart rs) is → AllByRecursion (λ i. i < length rs) is
-joined_there rs [] a = tt
-joined_there rs (i ∷ is) a = (a.0.0, joined_there rs is a.1)
-
 -- ---- one after the other or all at once
 parts_of_merged : (p : Place) (es : List Expression) → AllByRecursion (λ (e : Expression). parts_of_expression e ≡ e ∷ []) es → parts_of_expression (merged_expression p es) ≡ es
 parts_of_merged p [] a = refl
@@ -140,15 +136,6 @@ two_joined : (t : ℕ → Expression) (p : Place) (is : List ℕ) → 2 ≤ leng
 two_joined t p [] h = absurd (omega arith)
 two_joined t p (i ∷ []) h = absurd (omega arith)
 two_joined t p (i ∷ (j ∷ is)) h = refl
-
-pub place_of_shape : (P : ℕ → PlacedTree) (t : ℕ → Expression) (p : Place) (rs : List ExprRow) (f : ExprShape) → ExprCanFollow rs f → place_of_expression (shape_expression P t p f) ≡ p
-place_of_shape P t p rs empty_shape h = refl
-place_of_shape P t p rs (text_shape s) h = refl
-place_of_shape P t p rs (var_shape x) h = refl
-place_of_shape P t p rs (elem_shape l i) h = refl
-place_of_shape P t p rs (seq_shape is) h = two_joined t p is h.0
-place_of_shape P t p rs (call_shape f is) h = refl
-place_of_shape P t p rs (match_shape i cs) h = refl
 
 -- the node of two parts or more
 two_merged : (p q : Place) (e f : Expression) (fs : List Expression) → q ≡ place_of_expression e → joined q (e ∷ (f ∷ fs)) ≡ merged_expression p (e ∷ (f ∷ fs))

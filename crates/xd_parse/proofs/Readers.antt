@@ -10,7 +10,9 @@ use Rattle.xd_syntax.specs.Table.{Row, KeepsRows}
 use Rattle.xd_syntax.specs.Expression.{Expression, Matched, Clauses, no_clause, clause}
 use Rattle.xd_syntax.specs.ExpressionTable.{clauses_of, ExprRow, expression_at, IsJoinedPart, KeepsExprs, PatternsBelong}
 use Rattle.xd_syntax.specs.Exprs.{expr_numbers}
+use Rattle.xd_syntax.proofs.ExprTrees.{joined_parts_below}
 use Rattle.xd_grammar.specs.declared.grammar.Nonterminal.TheVariants as n
+use Rattle.xd_parse_trees.proofs.StandLemmas.{kept}
 use Rattle.xd_parse.specs.declared.joining.Items.{Items}
 use Rattle.xd_grammar.specs.declared.grammar.Terminal.TheVariants as t
 use Rattle.xd_grammar.specs.Fits.{same}
@@ -20,8 +22,8 @@ use Rattle.xd_parse_trees.specs.Values.{an_expression, expressions, a_clause, cl
 use Rattle.xd_parse_trees.specs.Reading.{Reads, front_terminal, front_place, front_text, behind}
 use Rattle.xd_parse.specs.Grows.{Grows}
 use Rattle.xd_parse_trees.proofs.Kept.{IsPattern-more}
-use Rattle.xd_parse.proofs.Grown.{Grows-trans, IsExpr-more, IsExprPart-more, same_expression, same_expressions, same_pattern, push_part}
-use Rattle.xd_parse.proofs.JoinLemmas.{all_alone, all_joined_append, joined_stays, joined_there, numbers_append, sequence_merged}
+use Rattle.xd_parse.proofs.Grown.{Grows-trans, IsExpr-more, IsExprPart-more, same_expression, same_expressions, push_part}
+use Rattle.xd_parse.proofs.JoinLemmas.{all_alone, all_joined_append, joined_stays, numbers_append, sequence_merged}
 use Rattle.xd_parse_trees.proofs.Rows.{behind_le, next_lt}
 use Rattle.xd_parse.proofs.ExprRows.{expr_reads, items_end, items_more, item_word, parens_end, parens_more, item_match, clauses_end, clauses_more}
 
@@ -48,7 +50,7 @@ items_start start here ps0 es0 ps es read r a g l = record {
 
 -- items are as they were
 pub items_stay : (ps : List Row) (es : List ExprRow) (qs : List Row) (fs : List ExprRow) (read : Items) → Grows ps es qs fs → PatternsBelong (length ps) es → AreItems es read → expression_of qs fs read ≡ expression_of ps es read
-items_stay ps es qs fs read g b a = ap (merged_expression read.place) (same_expressions ps es qs fs (expr_numbers read.parts.items) g b (joined_there es (expr_numbers read.parts.items) a))
+items_stay ps es qs fs read g b a = ap (merged_expression read.place) (same_expressions ps es qs fs (expr_numbers read.parts.items) g b (joined_parts_below es (expr_numbers read.parts.items) a))
 
 -- items, and others after them
 items_are : (ps : List Row) (es : List ExprRow) (front back all : Items) → all.place ≡ front.place → all.parts.items ≡ front.parts.items ++ back.parts.items →
@@ -136,7 +138,7 @@ before_same : (ps : List Row) (es : List ExprRow) (qs : List Row) (fs : List Exp
     clauses_before (placed_at qs) (expression_at qs fs) cs later ≡ clauses_before (placed_at ps) (expression_at ps es) cs later
 before_same ps es qs fs [] later g b x y = refl
 before_same ps es qs fs (c ∷ cs) later g b x y =
-    let p : placed_at qs c.0 ≡ placed_at ps c.0 = same_pattern ps qs c.0 g.rows x.0 in
+    let p : placed_at qs c.0 ≡ placed_at ps c.0 = kept ps qs c.0 g.rows x.0 in
     let e : expression_at qs fs c.1 ≡ expression_at ps es c.1 = same_expression ps es qs fs c.1 g b y.0 in
     let k = before_same ps es qs fs cs later g b x.1 y.1 in cc
 

@@ -1,8 +1,9 @@
 -- What is read where it ends with one more node.
-use Rattle.std.proofs.Common.{◌≡◌, ℕ, suc, ◌<◌, ◌++◌, arith, true, false, List, [], ◌∷◌, length, map, refl, sym, ap, subst, ◌∙◌, Result, Ok, Err, IfOk}
+use Rattle.std.proofs.Common.{◌≡◌, ℕ, ◌<◌, ◌++◌, arith, true, false, List, [], ◌∷◌, length, map, refl, sym, ap, subst, ◌∙◌, Result, Ok, Err, IfOk}
 use Rattle.std.specs.Prelude.{◌==◌}
 use Rattle.std.proofs.lemmas.Bool.{eqb-true}
 use Rattle.xd_base.specs.declared.Place.{Place}
+use Rattle.xd_doc.proofs.Results.{ok_both}
 use Rattle.xd_lex.specs.Tokens.{Lexeme}
 use Rattle.xd_syntax.specs.PlacedTable.{placed_at}
 use Rattle.xd_syntax.specs.Table.{Row}
@@ -31,10 +32,6 @@ use Rattle.xd_parse.proofs.ExprRows.{item_none}
 pub if_ok : {X E : Type 0} (r : Result X E) (P : X → Type 0) → ((x : X) → P x) → IfOk r P
 if_ok (Ok x) P h = h x
 if_ok (Err e) P h = tt
-
-pub if_ok_both : {X E : Type 0} (r : Result X E) (P Q R : X → Type 0) → ((x : X) → P x → Q x → R x) → IfOk r P → IfOk r Q → IfOk r R
-if_ok_both (Ok x) P Q R h p q = h x p q
-if_ok_both (Err e) P Q R h p q = tt
 
 -- a reading from a place that is given otherwise
 pub from_there : (part : Nonterminal) (x y to : List Lexeme) (v : Value) → x ≡ y → Reads part x to v → Reads part y to v
@@ -77,7 +74,7 @@ node_reads (Err e) part from to ps es fs items r h = tt
 
 pub node_grows : {E : Type 0} (r : Result ExprId E) (ps0 : List Row) (es0 : List ExprRow) (ps : List Row) (es fs : List ExprRow) → Grows ps0 es0 ps es → IfOk r (λ id. KeepsExprs es fs) →
     IfOk r (λ id. (k : ℕ) → PatternsBelong k es → PatternsBelong k fs) → IfOk r (λ id. Grows ps0 es0 ps fs)
-node_grows r ps0 es0 ps es fs g k b = if_ok_both r _ _ _ (λ id x y. Grows-exprs ps0 es0 ps es fs g x y) k b
+node_grows r ps0 es0 ps es fs g k b = ok_both r _ _ _ (λ id x y. Grows-exprs ps0 es0 ps es fs g x y) k b
 
 pub add_grows : {A E : Type 0} (r : Result A E) (ps0 : List Row) (es0 : List ExprRow) (ps : List Row) (es fs : List ExprRow) (p : Place) (f : ExprShape) → Grows ps0 es0 ps es → ShapePatternsBelong (length ps) f →
     IfOk r (λ id. fs ≡ es ++ record { place = p; form = f } ∷ []) → IfOk r (λ id. Grows ps0 es0 ps fs)
@@ -102,10 +99,6 @@ no_ids k (id ∷ ids) h e = let z : k ≡ 0 = eqb-true k 0 h in absurd (omega ar
 pub call_is : (x : List ℕ) (p : Place) (u : ℕ → Expression) (is : List ℕ) → 0 < length is → word_expression x p (map u is) ≡ Called p x (arguments_of (map u is))
 call_is x p u [] h = absurd (omega arith)
 call_is x p u (i ∷ is) h = refl
-
-pub length-numbers : (ids : List ExprId) → length (expr_numbers ids) ≡ length ids
-length-numbers [] = refl
-length-numbers (id ∷ ids) = ap suc (length-numbers ids)
 
 -- ---- where no item begins
 pub nothing_begins : (c to : List Lexeme) (e : Expression) (k : Terminal) → k ≡ front_terminal c → (k ≡ t.Text → ⊥) → (k ≡ t.Word → ⊥) → (k ≡ t.Label → ⊥) → (k ≡ t.Match → ⊥) → (k ≡ t.ParenL → ⊥) → Reads n.Item c to (an_expression e)

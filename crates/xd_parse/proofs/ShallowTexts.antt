@@ -1,7 +1,8 @@
 -- The types of a text are no deeper than a text may be nested.
-use Rattle.std.proofs.Common.{◌≡◌, ℕ, List, [], ◌∷◌, length, take, ap, sym, subst, ◌∙◌, arith}
+use Rattle.std.proofs.Common.{◌≡◌, ℕ, List, [], length, take, ap, sym, subst, ◌∙◌, arith}
 use Rattle.std.proofs.Math.Seq.{take-append_seam}
 use Rattle.std.specs.List.{AllByRecursion}
+use Rattle.xd_doc.proofs.Lists.{all_as}
 use Rattle.xd_lex.specs.Tokens.{Lexeme, tokens_of}
 use Rattle.xd_syntax.specs.Placed.{PlacedTree}
 use Rattle.xd_syntax.specs.Table.{KeepsRows, Row}
@@ -26,17 +27,13 @@ use Rattle.xd_parse.proofs.Turned.{type_text_reads}
 tree_within : (limit : ℕ) (T : PlacedTree) → AnyWithin limit 0 T → TreeWithin T limit
 tree_within limit T h = let a = h.1 in omega arith
 
-all_weaker : {X : Type 0} (P Q : X → Type 0) → ((x : X) → P x → Q x) → (xs : List X) → AllByRecursion P xs → AllByRecursion Q xs
-all_weaker P Q f [] a = tt
-all_weaker P Q f (x ∷ xs) a = (f x a.0, all_weaker P Q f xs a.1)
-
 params_within : (limit : ℕ) (qs : List Parameter) → AllByRecursion (ParamWithin limit 0) qs → ParametersWithin qs limit
-params_within limit qs a = all_weaker (ParamWithin limit 0) (λ (q : Parameter). TreeWithin q.declared limit) (λ q h. tree_within limit q.declared h) qs a
+params_within limit qs a = all_as (ParamWithin limit 0) (λ (q : Parameter). TreeWithin q.declared limit) (λ q h. tree_within limit q.declared h) qs a
 
 program_within : (limit : ℕ) (P : ProgramTree) → ProgramWithin limit 0 P → DefinitionsWithin P limit
 program_within limit P h = (
-  all_weaker (TypeDefWithin limit 0) (λ (t : TypeDefinition). TreeWithin t.body limit) (λ t k. tree_within limit t.body k) P.types h.0,
-  all_weaker (FunctionWithin limit 0) (λ (f : FunctionDefinition). ParametersWithin f.parameters limit × TreeWithin f.declared limit) (λ f k. (params_within limit f.parameters k.0, tree_within limit f.declared k.1)) P.functions h.1,
+  all_as (TypeDefWithin limit 0) (λ (t : TypeDefinition). TreeWithin t.body limit) (λ t k. tree_within limit t.body k) P.types h.0,
+  all_as (FunctionWithin limit 0) (λ (f : FunctionDefinition). ParametersWithin f.parameters limit × TreeWithin f.declared limit) (λ f k. (params_within limit f.parameters k.0, tree_within limit f.declared k.1)) P.functions h.1,
 )
 
 -- what the tokens of a text stand for is within its limit

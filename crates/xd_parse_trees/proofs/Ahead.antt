@@ -20,7 +20,7 @@ use Rattle.xd_parse_trees.specs.Values.{Value}
 use Rattle.xd_parse_trees.specs.Means.{Means}
 use Rattle.xd_parse_trees.specs.Reading.{front_terminal, behind, group_row, element_row, SpellNo}
 use Rattle.xd_grammar.proofs.Derive.{is_group, rules_decided, chosen_none, chosen_only}
-use Rattle.xd_grammar.proofs.Courses.{Out, Dead, Behind, Unknown, dead_too, if_plain, out_of, go, IsDouble, IsRight, course_right}
+use Rattle.xd_grammar.proofs.Courses.{Out, Dead, Behind, Unknown, dead_too, if_plain, out_of, go, IsDouble, IsRight, course_right, main_both}
 use Rattle.xd_grammar.specs.Text.{terminal_at}
 use Rattle.xd_parse_trees.proofs.Rows.{MeansView, means_view, append_means, means_fits, means_may, needs, needs_token, same_at, other_at}
 
@@ -103,9 +103,6 @@ element_begins content (l ∷ ls) rest ws e m = listed_begins content l ls rest 
 
 pub readings_begin : (sort : Sort) (from : List Lexeme) → front_terminal from ≡ t.ParenL → BothReadings sort (Opened sort) from (behind from)
 readings_begin s from e = record { double = tt; group = λ rest ws m. group_begins (n.Group s) from rest ws m; listed = λ rest ws m. element_begins (n.Content s) from rest ws e m }
-
-main_both : (next : Reading) → Main ≡ Both next → ⊥
-main_both next e = cc
 
 -- at the end of the tokens not both go on
 pub both_at_end : (reading next : Reading) → IsDouble reading → course reading t.Broken ≡ Both next → ⊥

@@ -11,6 +11,7 @@ use Rattle.std.specs.declared.cmp.Ordering.TheVariants.{Less, Equal, Greater}
 use Rattle.xd_doc.specs.Classes.{NameClass}
 use Rattle.xd_doc.specs.ClassForms.{names_label}
 use Rattle.xd_doc.proofs.SortedNames.{same_words}
+use Rattle.xd_doc.proofs.Bools.{or_swap, or_twice}
 use Rattle.xd_syntax.specs.Table.{IsWordsNode}
 use Rattle.xd_parse_trees.specs.Merged.{put_by, put_word, in_byte_order, class_of}
 
@@ -57,16 +58,6 @@ sorted_put w (x ∷ xs) s = go (R w x) refl (sorted_put w xs s.1)
     go Less e i = rw e ((e, below_all w x xs e s.0), s)
     go Equal e i = rw e s
     go Greater e i = rw e (all_put (λ z. R x z ≡ Less) w xs (after_less x w e) s.0, i)
-
-or_twice : (b c : Bool) → (b || c) ≡ (b || (b || c))
-or_twice true c = refl
-or_twice false c = refl
-
-or_swap : (a b c : Bool) → (a || (b || c)) ≡ (b || (a || c))
-or_swap true true c = refl
-or_swap true false c = refl
-or_swap false true c = refl
-or_swap false false c = refl
 
 names_put : (w : List ℕ) (xs : List (List ℕ)) (l : List ℕ) → names_label (put_word w xs) l ≡ names_label (w ∷ xs) l
 names_put w [] l = refl

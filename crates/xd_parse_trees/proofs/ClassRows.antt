@@ -17,7 +17,7 @@ use Rattle.xd_parse_trees.specs.Merged.{class_of}
 use Rattle.xd_grammar.proofs.Derive.{same-true}
 use Rattle.xd_parse_trees.specs.Values.{Value, mark, quoted, a_tree, names, labels, class, texts, labelled, value_of}
 use Rattle.xd_parse_trees.specs.Reading.{Reads, ReadsListed, ReadsTexts, ReadsExcepted, front_terminal, front_place, front_text, behind, any_text}
-use Rattle.xd_parse_trees.proofs.Rows.{ReadsRow, row_end, row_token, row_token_where, row_opening, row_closed, row_unless, row_part, part_one, part_fit, part_none, front_same}
+use Rattle.xd_parse_trees.proofs.Rows.{ReadsRow, row_end, row_token, row_token_where, row_opening, row_closed, row_unless, row_part, part_one, part_fit, part_none, front_same, behind_le}
 
 abbrev IsAnyWord : (k : Terminal) (from : List Lexeme) (s : List ℕ) → Type 0
 IsAnyWord k from s = front_terminal from ≡ k → (k ≡ t.Word → s ≡ front_text from) → Reads n.AnyWord from (behind from) (names (any_text k s ∷ []))
@@ -43,17 +43,13 @@ pub record SoFar (rest : Nonterminal) (made : List (List ℕ) → Value) (from n
   pub reads : (to : List Lexeme) (ws : List (List ℕ)) → Reads rest now to (made ws) → Reads rest from to (made (more ++ ws))
   pub fewer : length now ≤ length from
 
-pub behind_fewer : (now : List Lexeme) → length (behind now) ≤ length now
-behind_fewer [] = omega arith
-behind_fewer (l ∷ ls) = omega arith
-
 list_more : (rest : Nonterminal) (made : List (List ℕ) → Value) (from now later : List Lexeme) (first all : List (List ℕ)) (w : List ℕ) → SoFar rest made from now first all → later ≡ behind (behind now) →
     ((to : List Lexeme) (ws : List (List ℕ)) → Reads rest later to (made ws) → Reads rest now to (made (w ∷ ws))) → SoFar rest made from later first (all ++ w ∷ [])
 list_more rest made from now later first all w s g one = record {
   more = s.more ++ w ∷ [];
   split = ap (λ xs. xs ++ w ∷ []) s.split ∙ append_assoc first s.more (w ∷ []);
   reads = λ to ws r. rw (append_assoc s.more (w ∷ []) ws) (s.reads to (w ∷ ws) (one to ws r));
-  fewer = let a = behind_fewer now in let b = behind_fewer (behind now) in let c = s.fewer in rw g (omega arith);
+  fewer = let a = behind_le now in let b = behind_le (behind now) in let c = s.fewer in rw g (omega arith);
 }
 
 list_done : (rest : Nonterminal) (made : List (List ℕ) → Value) (from now : List Lexeme) (first all : List (List ℕ)) (s : SoFar rest made from now first all) → Reads rest now now (made []) → Reads rest from now (made s.more)

@@ -2,19 +2,17 @@
 use Rattle.std.proofs.Common.{◌≡◌, ◌≤◌, ℕ, max, ◌++◌, List, [], ◌∷◌, flat_map, refl, sym, ap, ◌∙◌, arith}
 use Rattle.std.proofs.Math.Nat.{le-max_left, le-max_right, max-le}
 use Rattle.xd_base.specs.declared.Place.{Place}
+use Rattle.xd_doc.proofs.Numbers.{itself}
 use Rattle.xd_syntax.specs.Placed.{PlacedTree, Empty_at, Text_at, Words_at, Name_at, Elem_at, Seq_at, Alt_at, Star_at, Plus_at, Opt_at, Val_at, place_of, placed_seq, placed_alt}
 use Rattle.xd_parse_trees.specs.Merged.{parts_of_seq, parts_of_alt, merged_seq, sequence, alternative}
 use Rattle.xd_parse_trees.specs.Shallow.{TreeWithin, TreesWithin, IsWhole, IsDeepest}
-use Rattle.xd_parse_trees.proofs.Depth.{any_depth, seq_depth, post_depth, le_refl, up_seq, up_post, some_branch}
+use Rattle.xd_parse_trees.proofs.Depth.{any_depth, seq_depth, post_depth, up_seq, up_post, some_branch, cons_not_nil}
 
 le_trans : (a b c : ℕ) → a ≤ b → b ≤ c → a ≤ c
 le_trans a b c h k = omega arith
 
 same_le : (a b c : ℕ) → a ≡ b → b ≤ c → a ≤ c
 same_le a b c e h = omega arith
-
-cons_not_nil : (T : PlacedTree) (Ts : List PlacedTree) → T ∷ Ts ≡ [] → ⊥
-cons_not_nil T Ts e = cc
 
 max_grows : (a b c : ℕ) → b ≤ c → max a b ≤ max a c
 max_grows a b c h = let l = le-max_left a c in let r = le-max_right a c in max-le l (le_trans b c (max a c) h r)
@@ -33,7 +31,7 @@ alt_is p (T ∷ (U ∷ Us)) = ap (max (seq_depth T)) (alt_is (place_of U) (U ∷
 
 -- the first branch
 alt_head : (T : PlacedTree) (Us : List PlacedTree) → any_depth T ≤ alt_list (T ∷ Us)
-alt_head T [] = le_refl (any_depth T)
+alt_head T [] = itself (any_depth T)
 alt_head T (U ∷ Us) = le_trans (any_depth T) (seq_depth T) (max (seq_depth T) (alt_list (U ∷ Us))) (up_seq T) (le-max_left (seq_depth T) (alt_list (U ∷ Us)))
 
 alt_tail : (T : PlacedTree) (Us : List PlacedTree) → (Us ≡ [] → ⊥) → alt_list Us ≤ alt_list (T ∷ Us)
@@ -45,7 +43,7 @@ append_some [] Us ne e = ne e
 append_some (V ∷ Vs) Us ne e = cons_not_nil V (Vs ++ Us) e
 
 alt_behind : (Vs Us : List PlacedTree) → (Us ≡ [] → ⊥) → alt_list Us ≤ alt_list (Vs ++ Us)
-alt_behind [] Us ne = le_refl (alt_list Us)
+alt_behind [] Us ne = itself (alt_list Us)
 alt_behind (V ∷ Vs) Us ne = le_trans (alt_list Us) (alt_list (Vs ++ Us)) (alt_list (V ∷ (Vs ++ Us))) (alt_behind Vs Us ne) (alt_tail V (Vs ++ Us) (append_some Vs Us ne))
 
 alt_pair : (T : PlacedTree) (m : ℕ) (Us : List PlacedTree) → (Us ≡ [] → ⊥) → m ≤ alt_list Us → max (seq_depth T) m ≤ alt_list (T ∷ Us)
@@ -106,17 +104,17 @@ merged_is p [] = refl
 merged_is p (T ∷ Ts) = any_is (place_of T) (T ∷ Ts)
 
 up_list : (Ts : List PlacedTree) → any_list Ts ≤ seq_list Ts
-up_list [] = le_refl 1
+up_list [] = itself 1
 up_list (T ∷ []) = up_seq T
-up_list (T ∷ (U ∷ Us)) = le_refl (max (post_depth T) (seq_list (U ∷ Us)))
+up_list (T ∷ (U ∷ Us)) = itself (max (post_depth T) (seq_list (U ∷ Us)))
 
 seq_front : (T : PlacedTree) (Ts Us : List PlacedTree) → seq_list (T ∷ Ts) ≤ seq_list (T ∷ (Ts ++ Us))
-seq_front T [] [] = le_refl (seq_depth T)
+seq_front T [] [] = itself (seq_depth T)
 seq_front T [] (U ∷ Us) = le_trans (seq_depth T) (post_depth T) (max (post_depth T) (seq_list (U ∷ Us))) (up_post T) (le-max_left (post_depth T) (seq_list (U ∷ Us)))
 seq_front T (V ∷ Vs) Us = max_grows (post_depth T) (seq_list (V ∷ Vs)) (seq_list (V ∷ (Vs ++ Us))) (seq_front V Vs Us)
 
 any_front : (T : PlacedTree) (Ts Us : List PlacedTree) → any_list (T ∷ Ts) ≤ any_list (T ∷ (Ts ++ Us))
-any_front T [] [] = le_refl (any_depth T)
+any_front T [] [] = itself (any_depth T)
 any_front T [] (U ∷ Us) =
     le_trans (any_depth T) (post_depth T) (max (post_depth T) (seq_list (U ∷ Us))) (le_trans (any_depth T) (seq_depth T) (post_depth T) (up_seq T) (up_post T)) (le-max_left (post_depth T) (seq_list (U ∷ Us)))
 any_front T (V ∷ Vs) Us = max_grows (post_depth T) (seq_list (V ∷ Vs)) (seq_list (V ∷ (Vs ++ Us))) (seq_front V Vs Us)
@@ -126,7 +124,7 @@ any_tail T [] ne = absurd (ne refl)
 any_tail T (U ∷ Us) ne = le_trans (any_list (U ∷ Us)) (seq_list (U ∷ Us)) (max (post_depth T) (seq_list (U ∷ Us))) (up_list (U ∷ Us)) (le-max_right (post_depth T) (seq_list (U ∷ Us)))
 
 any_behind : (Vs Us : List PlacedTree) → (Us ≡ [] → ⊥) → any_list Us ≤ any_list (Vs ++ Us)
-any_behind [] Us ne = le_refl (any_list Us)
+any_behind [] Us ne = itself (any_list Us)
 any_behind (V ∷ Vs) Us ne = le_trans (any_list Us) (any_list (Vs ++ Us)) (any_list (V ∷ (Vs ++ Us))) (any_behind Vs Us ne) (any_tail V (Vs ++ Us) (append_some Vs Us ne))
 
 -- in front and after, within a limit; where nothing stands there, it is 1

@@ -2,6 +2,7 @@
 use Rattle.std.proofs.Common.{◌≡◌, ◌≤◌, ◌+◌, ◌-◌, ℕ, suc, max, ◌++◌, Bool, true, false, cond, List, [], ◌∷◌, flat_map, refl, arith}
 use Rattle.std.proofs.Math.Nat.{le-max_left, le-max_right, max-le}
 use Rattle.std.specs.Str.{bytes_eq}
+use Rattle.xd_doc.proofs.Numbers.{itself, le_suc}
 use Rattle.xd_syntax.specs.Words.{string_word}
 use Rattle.std.specs.List.{AllByRecursion}
 use Rattle.xd_base.specs.declared.Place.{Place}
@@ -25,46 +26,40 @@ post_depth T = depth_at_level postfix_level (unplaced T)
 abbrev pub prim_depth : PlacedTree → ℕ
 prim_depth T = depth_at_level primary_level (unplaced T)
 
-pub le_refl : (m : ℕ) → m ≤ m
-le_refl m = omega arith
-
-le_suc : (m : ℕ) → m ≤ m + 1
-le_suc m = omega arith
-
 pub up_seq : (T : PlacedTree) → any_depth T ≤ seq_depth T
 up_seq (Empty_at p) = omega arith
 up_seq (Text_at p) = omega arith
-up_seq (Words_at p w) = le_refl _
+up_seq (Words_at p w) = itself _
 up_seq (Name_at p x) = omega arith
-up_seq (Elem_at p c T) = le_refl _
-up_seq (Seq_at p T U) = le_refl _
+up_seq (Elem_at p c T) = itself _
+up_seq (Seq_at p T U) = itself _
 up_seq (Alt_at p T U) = le_suc _
-up_seq (Star_at p T) = le_refl _
-up_seq (Plus_at p T) = le_refl _
-up_seq (Opt_at p T) = le_refl _
+up_seq (Star_at p T) = itself _
+up_seq (Plus_at p T) = itself _
+up_seq (Opt_at p T) = itself _
 up_seq (Val_at p x q T) = up_seq T
 
 pub up_post : (T : PlacedTree) → seq_depth T ≤ post_depth T
 up_post (Empty_at p) = omega arith
 up_post (Text_at p) = omega arith
-up_post (Words_at p w) = le_refl _
+up_post (Words_at p w) = itself _
 up_post (Name_at p x) = omega arith
-up_post (Elem_at p c T) = le_refl _
+up_post (Elem_at p c T) = itself _
 up_post (Seq_at p T U) = le_suc _
-up_post (Alt_at p T U) = le_refl _
-up_post (Star_at p T) = le_refl _
-up_post (Plus_at p T) = le_refl _
-up_post (Opt_at p T) = le_refl _
+up_post (Alt_at p T U) = itself _
+up_post (Star_at p T) = itself _
+up_post (Plus_at p T) = itself _
+up_post (Opt_at p T) = itself _
 up_post (Val_at p x q T) = up_post T
 
 pub up_prim : (T : PlacedTree) → post_depth T ≤ prim_depth T
 up_prim (Empty_at p) = omega arith
 up_prim (Text_at p) = omega arith
-up_prim (Words_at p w) = le_refl _
+up_prim (Words_at p w) = itself _
 up_prim (Name_at p x) = omega arith
-up_prim (Elem_at p c T) = le_refl _
-up_prim (Seq_at p T U) = le_refl _
-up_prim (Alt_at p T U) = le_refl _
+up_prim (Elem_at p c T) = itself _
+up_prim (Seq_at p T U) = itself _
+up_prim (Alt_at p T U) = itself _
 up_prim (Star_at p T) = le_suc _
 up_prim (Plus_at p T) = le_suc _
 up_prim (Opt_at p T) = le_suc _
@@ -77,11 +72,11 @@ down_prim (Text_at p) = omega arith
 down_prim (Words_at p w) = le_suc _
 down_prim (Name_at p x) = omega arith
 down_prim (Elem_at p c T) = le_suc _
-down_prim (Seq_at p T U) = le_refl _
-down_prim (Alt_at p T U) = le_refl _
-down_prim (Star_at p T) = le_refl _
-down_prim (Plus_at p T) = le_refl _
-down_prim (Opt_at p T) = le_refl _
+down_prim (Seq_at p T U) = itself _
+down_prim (Alt_at p T U) = itself _
+down_prim (Star_at p T) = itself _
+down_prim (Plus_at p T) = itself _
+down_prim (Opt_at p T) = itself _
 down_prim (Val_at p x q T) = down_prim T
 
 -- ---- types without binders, within a limit
@@ -175,7 +170,7 @@ placed_seq_within l d p T (U ∷ Us) h a =
     let r : SeqWithin l d (placed_seq (place_of U) (U ∷ Us)) = placed_seq_within l d (place_of U) U Us a.0 a.1 in
     ((h.0, r.0), max_within (post_depth T) (seq_depth (placed_seq (place_of U) (U ∷ Us))) d l h.1 r.1)
 
-cons_not_nil : (T : PlacedTree) (Ts : List PlacedTree) → T ∷ Ts ≡ [] → ⊥
+pub cons_not_nil : (T : PlacedTree) (Ts : List PlacedTree) → T ∷ Ts ≡ [] → ⊥
 cons_not_nil T Ts e = cc
 
 -- where nothing is left, the first part was empty

@@ -11,6 +11,7 @@ use Rattle.xd_syntax.specs.PlacedTable.{placed_at, placed_form}
 use Rattle.xd_syntax.specs.Words.{any_word, has_word, string_word}
 use Rattle.xd_syntax.specs.Keywords.{keywords, is_type_name}
 use Rattle.xd_syntax.proofs.Words.{bytes_eq-turned}
+use Rattle.xd_syntax.proofs.TableRows.{KeepsRows-trans}
 use Rattle.xd_grammar.specs.declared.grammar.Nonterminal.{Nonterminal}
 use Rattle.xd_grammar.specs.declared.grammar.Nonterminal.TheVariants as n
 use Rattle.xd_grammar.specs.declared.grammar.Symbol.TheVariants.{Token, Closed, Unless, Part}
@@ -34,19 +35,15 @@ use Rattle.xd_grammar.proofs.Derive.{same-other, same-false, may, is_group}
 use Rattle.xd_parse_trees.proofs.Deeper.{alternative_branches, sequence_parts}
 use Rattle.xd_parse_trees.proofs.AddedDepth.{IsIn, none_deeper, only_within, content_in, bound_in, repeated_in, operator_in}
 use Rattle.xd_syntax.proofs.ShallowTables.{within_both}
-use Rattle.xd_parse_trees.proofs.Kept.{KeepsRows-refl, KeepsRows-trans}
+use Rattle.xd_parse_trees.proofs.Kept.{KeepsRows-refl}
 use Rattle.xd_parse_trees.proofs.StandLemmas.{tree_of_stays, stand_stays, free_parts, free_branches, is_whole, sequence_on, alternative_on, place_of_parts}
-use Rattle.xd_parse_trees.proofs.Rows.{MeansView, means_view, ReadsRow, row_end, row_token, row_token_where, row_opening, row_closed, row_unless, row_part, part_one, part_fit, by_row, empty_means, means_may, front_same}
+use Rattle.xd_parse_trees.proofs.Rows.{MeansView, means_view, ReadsRow, row_end, row_token, row_token_where, row_opening, row_closed, row_unless, row_part, part_one, part_fit, by_row, empty_means, means_may, front_same, behind_le}
 
 -- ---- tokens
 -- a token is left
 pub behind_fewer : (j : Terminal) (from : List Lexeme) → j ≢ t.Broken → front_terminal from ≡ j → length (behind from) + 1 ≡ length from
 behind_fewer j [] ne e = absurd (ne (sym e))
 behind_fewer j (l ∷ ls) ne e = omega arith
-
-pub behind_most : (from : List Lexeme) → length (behind from) ≤ length from
-behind_most [] = omega arith
-behind_most (l ∷ ls) = omega arith
 
 -- no nonterminal of this kind begins with the next token
 pub part_never : (part : Nonterminal) (k : Terminal) (from to : List Lexeme) (v : Value) → front_terminal from ≡ k → may 8 (Part part ∷ []) k ≡ false → Reads part from to v
@@ -291,7 +288,7 @@ read_on part more next joined start here from there old rows middle new read one
           (c.goes to (U ∷ later) (goes_on to U later (subst (λ (x : List Lexeme). Reads next x there (a_tree U)) b r.reads) q)));
       stand = m.stand;
       keeps = KeepsRows-trans old rows new c.keeps (KeepsRows-trans rows middle new r.keeps m.keeps);
-      fewer = (let x = c.fewer in let y = subst (λ (x : List Lexeme). length there ≤ length x) b r.fewer in let z = behind_most here in omega arith);
+      fewer = (let x = c.fewer in let y = subst (λ (x : List Lexeme). length there ≤ length x) b r.fewer in let z = behind_le here in omega arith);
       no_deeper = made_within old middle new (joined T (U ∷ [])) made m (λ limit o w.
           let d = deepest limit o w in
           within_both limit old rows middle r.keeps (c.no_deeper limit o (subst (λ (V : PlacedTree). TreeWithin V limit) e d.0)) (r.no_deeper limit o d.1.0));
@@ -345,8 +342,8 @@ pub branch_read : (s : Sort) (start here : List Lexeme) (old rows : List TableRo
 branch_read s start here old rows read c h = record { reads = c.goes here [] (part_end s here h); stand = c.stand; keeps = c.keeps; fewer = c.fewer; no_deeper = c.no_deeper }
 
 -- ---- an operator
-same_behind : (from to : List Lexeme) → to ≡ behind from → length to ≤ length from
-same_behind from to e = subst (λ (x : List Lexeme). length x ≤ length from) (sym e) (behind_most from)
+pub same_behind : (from to : List Lexeme) → to ≡ behind from → length to ≤ length from
+same_behind from to e = subst (λ (x : List Lexeme). length x ≤ length from) (sym e) (behind_le from)
 
 pub operator_read : {I : Type 0} (at : I → ℕ) (s : Sort) (k : Terminal) (from to : List Lexeme) (old middle new : List TableRow) (p : Place) (parts : Parts I) (i : I) (made : Pieces) → is_operator k ≡ true → k ≡ front_terminal from →
     to ≡ behind from → Stand old (pieces at parts) → p ≡ parts_place parts → IsAdded old middle (tree_of old (pieces at parts)) (at i) → Merges middle new (placed_form (placed_at middle) p (shape at (repeated_node k i))) made →
@@ -435,7 +432,7 @@ element_read s from middle to old rows added new inside j made p c b r l q a m =
     let T : PlacedTree = tree_of rows inside in
     reads_made (n.Prim s) from to old added new (Elem_at p c T) made (KeepsRows-trans old rows added q.keeps a.keeps)
     (subst (λ (U : PlacedTree). Merges added new (Elem_at p c U) made) a.placed m) (primary_element s from middle to p c T b r q.reads)
-    (let x = q.fewer in let y = behind_most from in omega arith) (node_within old rows added T (Elem_at p c T) j a (content_in p c T) q.no_deeper)
+    (let x = q.fewer in let y = behind_le from in omega arith) (node_within old rows added T (Elem_at p c T) j a (content_in p c T) q.no_deeper)
 
 pub part_read : (s : Sort) (from middle to : List Lexeme) (old rows new : List TableRow) (one made : Pieces) → same t.Val (front_terminal from) ≡ false → ReadsNode (n.Prim s) from middle old rows one →
     ReadsInto (n.Post s) (a_tree (tree_of rows one) ∷ []) n.Operator middle to rows new made → ReadsNode (n.Post s) from to old new made

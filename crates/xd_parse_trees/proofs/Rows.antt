@@ -84,7 +84,7 @@ row_part part row from middle to x vs one r rest ws m =
     (q.0, v.7 ∙ cons_values (value_of part v.2) x v.3 vs p.1 q.1)
 
 -- ---- a nonterminal, by its row
-one_value : (v w : Value) → v ∷ [] ≡ w ∷ [] → v ≡ w
+pub one_value : (v w : Value) → v ∷ [] ≡ w ∷ [] → v ≡ w
 one_value v w e = cc
 
 pub by_row : (part : Nonterminal) (made : Row) (from to : List Lexeme) (vs : List Value) → ((other : Row) (rest : List Lexeme) (ws : List Value) → IsOneOf other (rules part) → Means other from rest ws → other ≡ made) → ReadsRow made from to vs → Reads part from to (value_of part vs)

@@ -4,6 +4,7 @@ use Rattle.std.proofs.lemmas.List.{map-append, length-map}
 use Rattle.std.proofs.lemmas.Bool.{eqb-true}
 use Rattle.std.specs.List.{AllByRecursion}
 use Rattle.xd_base.specs.declared.Place.{Place}
+use Rattle.xd_doc.proofs.Lists.{all_append}
 use Rattle.xd_syntax.specs.Tree.{Tree, is_empty}
 use Rattle.xd_syntax.specs.TreeForms.{is_seq, is_alt}
 use Rattle.xd_syntax.specs.Table.{Row, Form, empty_form, seq_form, alt_form, tree_at, IsSeqPart, IsAltPart, KeepsRows}
@@ -11,6 +12,7 @@ use Rattle.xd_syntax.specs.Placed.{PlacedTree, Empty_at, Seq_at, Alt_at, placed_
 use Rattle.xd_syntax.specs.PlacedTable.{placed_at, placed_form}
 use Rattle.xd_syntax.proofs.Trees.{tree_kept}
 use Rattle.xd_syntax.proofs.PlacedTrees.{placed_kept, placed_new, unplaced_at}
+use Rattle.xd_syntax.proofs.TableRows.{KeepsRows-trans}
 use Rattle.xd_parse_trees.specs.declared.parts.Parts.{Parts}
 use Rattle.xd_parse_trees.specs.declared.parts.Parts.TheVariants.{One, Sequence, Alternative}
 use Rattle.xd_parse_trees.specs.Merged.{parts_of_seq, parts_of_alt, merged_seq, sequence, alternative}
@@ -19,7 +21,7 @@ use Rattle.xd_parse_trees.specs.Pieces.{Pieces, in_row, in_choice, pieces, tree_
 use Rattle.xd_parse_trees.specs.Shallow.{TreeWithin, IsWhole}
 use Rattle.xd_syntax.specs.ShallowTables.{AddsWithin}
 use Rattle.xd_syntax.proofs.ShallowTables.{within_both}
-use Rattle.xd_parse_trees.proofs.Kept.{KeepsRows-refl, KeepsRows-trans, IsPattern-more}
+use Rattle.xd_parse_trees.proofs.Kept.{KeepsRows-refl, IsPattern-more}
 use Rattle.xd_parse_trees.proofs.Deeper.{merged_parts, alternative_branches}
 use Rattle.xd_parse_trees.proofs.AddedDepth.{none_deeper, only_within}
 
@@ -73,10 +75,6 @@ merged_is_placed p (T ∷ Ts) = refl
 
 parts_of_merged : (p : Place) (Ts : List PlacedTree) → AllByRecursion IsPiece Ts → parts_of_seq (merged_seq p Ts) ≡ Ts
 parts_of_merged p Ts a = ap parts_of_seq (merged_is_placed p Ts) ∙ parts_of_placed (first_place p Ts) Ts a
-
-pub all_append : {A : Type 0} (P : A → Type 0) (xs ys : List A) → AllByRecursion P xs → AllByRecursion P ys → AllByRecursion P (xs ++ ys)
-all_append P [] ys a b = b
-all_append P (x ∷ xs) ys a b = (a.0, all_append P xs ys a.1 b)
 
 -- ---- one after the other or all at once
 merged_on : (p : Place) (Ts Us : List PlacedTree) → merged_seq (place_of (merged_seq p Ts)) (Ts ++ Us) ≡ merged_seq p (Ts ++ Us)

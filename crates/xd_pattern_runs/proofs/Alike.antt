@@ -1,13 +1,11 @@
 -- Lists that agree on what stands first and on their members: a later repeat of a member may be
 -- missing.
 use Rattle.std.proofs.Common.{◌≡◌, List, [], ◌∷◌, ◌++◌, map, flat_map, Option, Some, None, refl, ap, sym, subst, ◌∙◌, inl, inr}
+use Rattle.std.proofs.lemmas.Grind.{flat_map-append}
+use Rattle.xd_doc.proofs.Lists.{map_append}
 use Rattle.xd_syntax.specs.Ways.{Among}
 use Rattle.xd_pattern_runs.specs.Alike.{Holding, or_then, pick, Alike}
 use Rattle.xd_syntax.proofs.Members.{mem_append, append_left, append_right, mem_flat, flat_mem, mem_map, map_mem}
-
-pub append_none : {A : Type 0} (L : List A) → L ++ [] ≡ L
-append_none [] = refl
-append_none (x ∷ L) = ap (λ z. x ∷ z) (append_none L)
 
 pub append_then : {A : Type 0} (a b c : List A) → (a ++ b) ++ c ≡ a ++ (b ++ c)
 append_then [] b c = refl
@@ -131,25 +129,17 @@ alike_again u L M = record {
   back = λ x. members_more u x L M;
 }
 
-pub flat_append : {A B : Type 0} (f : A → List B) (L M : List A) → flat_map f (L ++ M) ≡ flat_map f L ++ flat_map f M
-flat_append f [] M = refl
-flat_append f (x ∷ L) M = ap (λ z. f x ++ z) (flat_append f L M) ∙ sym (append_then (f x) (flat_map f L) (flat_map f M))
-
 pub flat_flat : {A B C : Type 0} (f : B → List C) (g : A → List B) (L : List A) → flat_map f (flat_map g L) ≡ flat_map (λ x. flat_map f (g x)) L
 flat_flat f g [] = refl
-flat_flat f g (x ∷ L) = flat_append f (g x) (flat_map g L) ∙ ap (λ z. flat_map f (g x) ++ z) (flat_flat f g L)
+flat_flat f g (x ∷ L) = flat_map-append f (g x) (flat_map g L) ∙ ap (λ z. flat_map f (g x) ++ z) (flat_flat f g L)
 
 pub flat_of_map : {A B C : Type 0} (f : B → List C) (g : A → B) (L : List A) → flat_map f (map g L) ≡ flat_map (λ x. f (g x)) L
 flat_of_map f g [] = refl
 flat_of_map f g (x ∷ L) = ap (λ z. f (g x) ++ z) (flat_of_map f g L)
 
-pub map_append_of : {A B : Type 0} (f : A → B) (L M : List A) → map f (L ++ M) ≡ map f L ++ map f M
-map_append_of f [] M = refl
-map_append_of f (x ∷ L) M = ap (λ z. f x ∷ z) (map_append_of f L M)
-
 pub map_of_flat : {A B C : Type 0} (f : B → C) (g : A → List B) (L : List A) → map f (flat_map g L) ≡ flat_map (λ x. map f (g x)) L
 map_of_flat f g [] = refl
-map_of_flat f g (x ∷ L) = map_append_of f (g x) (flat_map g L) ∙ ap (λ z. map f (g x) ++ z) (map_of_flat f g L)
+map_of_flat f g (x ∷ L) = map_append f (g x) (flat_map g L) ∙ ap (λ z. map f (g x) ++ z) (map_of_flat f g L)
 
 pub map_of_map : {A B C : Type 0} (f : B → C) (g : A → B) (L : List A) → map f (map g L) ≡ map (λ x. f (g x)) L
 map_of_map f g [] = refl

@@ -1,18 +1,20 @@
--- What the ways of a pattern bind: no variable that it lacks, and where it is linear each of its
+-- What the ways of a pattern bind: no variable that it no_such_word, and where it is linear each of its
 -- variables once.
 use Rattle.std.proofs.Common.{◌≡◌, ℕ, suc, zero, ltb, Bool, true, false, cond, ◌||◌, List, [], ◌∷◌, ◌++◌, map, Option, Some, None, refl, ap, sym, subst, ◌∙◌, inl, inr}
 use Rattle.std.specs.Str.{bytes_eq}
-use Rattle.std.proofs.lemmas.Slice.Eq.{bytes_eq-Decides}
+use Rattle.std.proofs.lemmas.Bool.{or_parts}
 use Rattle.xd_doc.specs.Document.{Document, empty, text, element}
 use Rattle.xd_doc.specs.Classes.{class_has}
+use Rattle.xd_doc.proofs.Lists.{append_none, word_itself}
 use Rattle.xd_syntax.specs.Words.{has_word}
 use Rattle.xd_syntax.specs.Tree.{Tree, Empty, Text, Words, Name, Elem, Seq, Alt, Star, Plus, Opt, Val, Definitions, body, occurrences}
 use Rattle.xd_syntax.specs.Ways.{Way, no_item_way, then_way, item_count, turns, repetition, is_whole, binding, ways_by, ways_of_definition, ways_of_name, unfoldings, ways, Among}
 use Rattle.xd_syntax.proofs.Members.{mem_append, mem_map, mem_flat, cond_true}
+use Rattle.xd_syntax.proofs.NotLinear.{has_word_both}
 use Rattle.xd_laws.proofs.Unfoldings.{same_word_eq}
 use Rattle.xd_laws.proofs.WaysFit.{mem_in_turn}
+use Rattle.xd_laws.proofs.LinearPatterns.{no_such_word}
 use Rattle.xd_pattern_runs.specs.Linear.{BindNothing, IsLinear, given}
-use Rattle.xd_pattern_runs.proofs.Alike.{append_none}
 
 pub given_append : (x : List ℕ) (bs cs : List (List ℕ × Document)) → given x (bs ++ cs) ≡ given x bs ++ given x cs
 given_append x [] cs = refl
@@ -23,20 +25,8 @@ given_append x (b ∷ bs) cs = go (bytes_eq b.0 x) (given_append x bs cs)
     go true e = ap (λ z. b.1 ∷ z) e
     go false e = e
 
-or_none : (a b : Bool) → (a || b) ≡ false → (a ≡ false) × (b ≡ false)
-or_none true b h = cc
-or_none false b h = (refl, h)
-
-pub has_word_append : (xs ys : List (List ℕ)) (x : List ℕ) → has_word (xs ++ ys) x ≡ (has_word xs x || has_word ys x)
-has_word_append [] ys x = refl
-has_word_append (y ∷ xs) ys x = go (bytes_eq y x) (has_word_append xs ys x)
-  where
-    go : (t : Bool) → has_word (xs ++ ys) x ≡ (has_word xs x || has_word ys x) → (t || has_word (xs ++ ys) x) ≡ ((t || has_word xs x) || has_word ys x)
-    go true e = refl
-    go false e = e
-
 pub in_neither : (xs ys : List (List ℕ)) (x : List ℕ) → has_word (xs ++ ys) x ≡ false → (has_word xs x ≡ false) × (has_word ys x ≡ false)
-in_neither xs ys x h = or_none (has_word xs x) (has_word ys x) (sym (has_word_append xs ys x) ∙ h)
+in_neither xs ys x h = or_parts (has_word xs x) (has_word ys x) (sym (has_word_both xs ys x) ∙ h)
 
 none_then : (x : List ℕ) (v u w : Way) → given x v.bindings ≡ [] → given x u.bindings ≡ [] → then_way v u ≡ w → given x w.bindings ≡ []
 none_then x v u w a b e =
@@ -64,7 +54,7 @@ module _ (N : List ℕ → Document → List Way) (names : (y : List ℕ) (d : D
         | inr (inr b) ↦ absurd b
       ]
 
-  -- a variable that the pattern lacks is not bound
+  -- a variable that the pattern no_such_word is not bound
   pub none_by : (T : Tree) → has_word (occurrences T) x ≡ false → (d : Document) (w : Way) → Among w (ways_by N T d) → given x w.bindings ≡ []
   none_by Empty h d w (inl e) = nothing_given x d w e
   none_by Empty h d w (inr m) = absurd m
@@ -103,16 +93,13 @@ module _ (N : List ℕ → Document → List Way) (names : (y : List ℕ) (d : D
       [ inl a ↦ none_by T h d w a | inr (inl e) ↦ nothing_given x d w e | inr (inr b) ↦ absurd b ]
   none_by (Val y T) h d w m =
       let r = mem_map (binding y) w (ways_by N T d) m in
-      let o = or_none (bytes_eq y x) (has_word (occurrences T) x) h in
+      let o = or_parts (bytes_eq y x) (has_word (occurrences T) x) h in
       ap (λ (z : Way). given x z.bindings) (sym r.2) ∙ ap (λ b. cond b ((r.0).taken ∷ given x (r.0).bindings) (given x (r.0).bindings)) o.0 ∙ none_by T o.1 d r.0 r.1
-
-same_word : (x : List ℕ) → bytes_eq x x ≡ true
-same_word x = (bytes_eq-Decides x x).1 refl
 
 -- nothing at all is bound where there are no variables
 none_all : (bs : List (List ℕ × Document)) → ((x : List ℕ) → given x bs ≡ []) → bs ≡ []
 none_all [] h = refl
-none_all (b ∷ bs) h = go (bytes_eq b.0 b.0) (same_word b.0) (h b.0)
+none_all (b ∷ bs) h = go (bytes_eq b.0 b.0) (word_itself b.0) (h b.0)
   where
     go : (t : Bool) → t ≡ true → cond t (b.1 ∷ given b.0 bs) (given b.0 bs) ≡ [] → b ∷ bs ≡ []
     go true e k = cc
@@ -145,9 +132,6 @@ one_first x v u w a b e =
 one_second : (x : List ℕ) (v u w : Way) → given x v.bindings ≡ [] → IsOne (given x u.bindings) → then_way v u ≡ w → IsOne (given x w.bindings)
 one_second x v u w a b e =
     (b.0, ap (λ (z : Way). given x z.bindings) (sym e) ∙ given_append x v.bindings u.bindings ∙ ap (λ z. z ++ given x u.bindings) a ∙ b.1)
-
-lacks : (xs : List (List ℕ)) (x : List ℕ) → xs ≡ [] → has_word xs x ≡ true → ⊥
-lacks xs x e h = let k : has_word xs x ≡ false = ap (λ z. has_word z x) e in cc
 
 module _ (N : List ℕ → Document → List Way) (names : (y : List ℕ) (d : Document) (w : Way) → Among w (N y d) → w.bindings ≡ []) (x : List ℕ) where
   seq_one : (T U : Tree) (d : Document) (v u w : Way) → Among v (ways_by N T d) → Among u (ways_by N U v.rest) → then_way v u ≡ w →
@@ -187,14 +171,14 @@ module _ (N : List ℕ → Document → List Way) (names : (y : List ℕ) (d : D
       elim b.1 [ inl e ↦ (i.0, ap (λ (z : Way). given x z.bindings) (sym e) ∙ i.1) | inr o ↦ absurd o ]
   one_by (Seq T U) l h d w m =
       let r = mem_in_turn (ways_by N T) (ways_by N U) d w m in
-      seq_one T U d r.0 r.1 w r.2 r.3 r.4 (l.2 x) (sym (has_word_append (occurrences T) (occurrences U) x) ∙ h)
+      seq_one T U d r.0 r.1 w r.2 r.3 r.4 (l.2 x) (sym (has_word_both (occurrences T) (occurrences U) x) ∙ h)
       (λ k. one_by T l.0 k d r.0 r.2) (λ k. one_by U l.1 k (r.0).rest r.1 r.3) (has_word (occurrences T) x) refl
   one_by (Alt T U) l h d w m =
-      let k = alt_both T U (l.2 x) (sym (has_word_append (occurrences T) (occurrences U) x) ∙ h) (has_word (occurrences T) x) refl in
+      let k = alt_both T U (l.2 x) (sym (has_word_both (occurrences T) (occurrences U) x) ∙ h) (has_word (occurrences T) x) refl in
       elim (mem_append w (ways_by N T d) (ways_by N U d) m) [ inl a ↦ one_by T l.0 k.0 d w a | inr b ↦ one_by U l.1 k.1 d w b ]
-  one_by (Star T) l h d w m = absurd (lacks (occurrences T) x l h)
-  one_by (Plus T) l h d w m = absurd (lacks (occurrences T) x l h)
-  one_by (Opt T) l h d w m = absurd (lacks (occurrences T) x l h)
+  one_by (Star T) l h d w m = absurd (no_such_word (occurrences T) x l h)
+  one_by (Plus T) l h d w m = absurd (no_such_word (occurrences T) x l h)
+  one_by (Opt T) l h d w m = absurd (no_such_word (occurrences T) x l h)
   one_by (Val y T) l h d w m =
       let r = mem_map (binding y) w (ways_by N T d) m in
       val_one T y d r.0 w r.1 r.2 l.0 (λ k. one_by T l.1 k d r.0 r.1) (bytes_eq y x) refl h

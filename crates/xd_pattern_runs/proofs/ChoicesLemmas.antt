@@ -1,6 +1,8 @@
 -- Choices are found step by step.
 use Rattle.std.proofs.Common.{◌≡◌, ℕ, suc, zero, ◌+◌, ◌≤◌, arith, Bool, true, false, List, [], ◌∷◌, ◌++◌, flat_map, length, Option, Some, None, refl, ap, sym, subst, ◌∙◌, inl, inr}
+use Rattle.std.proofs.lemmas.Grind.{flat_map-append}
 use Rattle.xd_doc.specs.Document.{empty}
+use Rattle.xd_doc.proofs.Lists.{append_none}
 use Rattle.xd_syntax.specs.Tree.{Tree, Empty, Text, Words, Name, Elem, Seq, Alt, Star, Plus, Opt, Val, Definitions, body}
 use Rattle.xd_syntax.specs.TreeForms.{alt_of}
 use Rattle.xd_syntax.specs.Ways.{Among}
@@ -12,7 +14,7 @@ use Rattle.xd_syntax.proofs.Members.{append_left}
 use Rattle.xd_pattern_runs.specs.Alike.{Alike}
 use Rattle.xd_pattern_runs.specs.Runs.{Piece, Continuation, Choice, stop, take_text, take_element, in_place, then_choices, without_stops, one_stop, has_stop, turn_choices, some_turn_choices, choices_by, choices_of_definition, choices_of_name, choices}
 use Rattle.xd_pattern_runs.specs.Steps.{Ahead, ahead, behind_turn, in_turn_of, choices_ahead, marked, body_steps, StepsFind, OptionsFind}
-use Rattle.xd_pattern_runs.proofs.Alike.{append_none, append_then, alike_refl, alike_same, alike_sym, alike_trans, alike_append, alike_flat, alike_known, flat_append}
+use Rattle.xd_pattern_runs.proofs.Alike.{append_then, alike_refl, alike_same, alike_sym, alike_trans, alike_append, alike_flat, alike_known}
 use Rattle.xd_pattern_runs.proofs.Factor.{stop_there, stop_fits_by, stop_fits_name, some_turns}
 
 -- what the names in front give is all that is read
@@ -79,7 +81,7 @@ module _ (E : Definitions) (guarded : Guarded E) where
 
 then_then : (K F : Continuation) (ds es cs : List Choice) → then_choices (then_choices cs K ds) F es ≡ then_choices cs (K ++ F) (then_choices ds F es)
 then_then K F ds es [] = refl
-then_then K F ds es (stop ∷ cs) = flat_append (in_place F es) ds (then_choices cs K ds) ∙ ap (λ z. then_choices ds F es ++ z) (then_then K F ds es cs)
+then_then K F ds es (stop ∷ cs) = flat_map-append (in_place F es) ds (then_choices cs K ds) ∙ ap (λ z. then_choices ds F es ++ z) (then_then K F ds es cs)
 then_then K F ds es (take_text w xs R ∷ cs) =
     ap (λ z. take_text w xs z ∷ then_choices (then_choices cs K ds) F es) (append_then R K F) ∙ ap (λ z. take_text w xs (R ++ (K ++ F)) ∷ z) (then_then K F ds es cs)
 then_then K F ds es (take_element c C xs R ∷ cs) =
@@ -124,7 +126,7 @@ in_turn : Option Continuation → List Choice → List Choice
 in_turn u cs = flat_map (in_turn_of u) cs
 
 turn_append : (u : Option Continuation) (cs ds : List Choice) → flat_map (in_turn_of u) (cs ++ ds) ≡ flat_map (in_turn_of u) cs ++ flat_map (in_turn_of u) ds
-turn_append u cs ds = flat_append (in_turn_of u) cs ds
+turn_append u cs ds = flat_map-append (in_turn_of u) cs ds
 
 -- the takes of a turn
 inner_turn : (again : Piece) (F : Continuation) (u : Option Continuation) (cs : List Choice) →
@@ -171,14 +173,14 @@ steps_find E guarded xs (Alt T U) F u =
     alike_trans
     (alike_flat (in_turn_of u) (alike_flat (in_place F (choices E F)) (one_stop_alike (by_parts E xs T ++ by_parts E xs U))))
     (alike_same (
-    ap (flat_map (in_turn_of u)) (flat_append (in_place F (choices E F)) (by_parts E xs T) (by_parts E xs U))
+    ap (flat_map (in_turn_of u)) (flat_map-append (in_place F (choices E F)) (by_parts E xs T) (by_parts E xs U))
     ∙ turn_append u (then_choices (by_parts E xs T) F (choices E F)) (then_choices (by_parts E xs U) F (choices E F))
     ∙ sym (two_steps E (ahead (marked xs T ∷ F) u) (ahead (marked xs U ∷ F) u))))
 steps_find E guarded xs (Star T) F u =
     let again : Piece = marked xs (Star T) in
     alike_same (
     ap (flat_map (in_turn_of u))
-    (flat_append (in_place F (choices E F)) (then_choices (by_parts E xs T) (again ∷ []) []) (stop ∷ [])
+    (flat_map-append (in_place F (choices E F)) (then_choices (by_parts E xs T) (again ∷ []) []) (stop ∷ [])
     ∙ ap (λ z. then_choices (then_choices (by_parts E xs T) (again ∷ []) []) F (choices E F) ++ z) (stop_then F (choices E F))
     ∙ ap (λ z. z ++ choices E F) (all_takes (again ∷ []) F (choices E F) (by_parts E xs T)))
     ∙ turn_append u (then_choices (then_choices (by_parts E xs T) (again ∷ []) []) F []) (choices E F)
@@ -196,7 +198,7 @@ steps_find E guarded xs (Opt T) F u =
     (alike_flat (in_turn_of u) (alike_flat (in_place F (choices E F)) (one_stop_alike (by_parts E xs T ++ stop ∷ []))))
     (alike_same (
     ap (flat_map (in_turn_of u))
-    (flat_append (in_place F (choices E F)) (by_parts E xs T) (stop ∷ []) ∙ ap (λ z. then_choices (by_parts E xs T) F (choices E F) ++ z) (stop_then F (choices E F)))
+    (flat_map-append (in_place F (choices E F)) (by_parts E xs T) (stop ∷ []) ∙ ap (λ z. then_choices (by_parts E xs T) F (choices E F) ++ z) (stop_then F (choices E F)))
     ∙ turn_append u (then_choices (by_parts E xs T) F (choices E F)) (choices E F)
     ∙ sym (two_steps E (ahead (marked xs T ∷ F) u) (ahead F u))))
 steps_find E guarded xs (Val y T) F u = alike_same (sym (one_step E (ahead (marked (y ∷ xs) T ∷ F) u)))

@@ -1,5 +1,6 @@
 -- The patterns of clauses, and parts of patterns, are linear.
 use Rattle.std.proofs.Common.{◌≡◌, ℕ, false, List, [], ◌++◌, map, ap, sym, subst, ◌∙◌, inl, inr}
+use Rattle.xd_doc.proofs.Lists.{append_none_parts}
 use Rattle.xd_syntax.specs.Words.{has_word}
 use Rattle.xd_syntax.specs.Tree.{Tree, Empty, Text, Words, Name, Elem, Seq, Alt, Star, Plus, Opt, Val, occurrences}
 use Rattle.xd_syntax.specs.Placed.{PlacedTree, variables}
@@ -12,9 +13,9 @@ use Rattle.xd_pattern_runs.specs.Linear.{IsLinear}
 use Rattle.xd_pattern_runs.specs.Clauses.{IsPartOf, part_itself, part_content, part_first, part_rest, part_left, part_right, part_star, part_plus, part_opt, part_val, PartsAreLinear, patterns_in, patterns_in_arguments, patterns_in_clauses, ClausesAreLinear}
 use Rattle.xd_pattern_runs.proofs.Factor.{nil_append}
 use Rattle.xd_laws.proofs.NoFaults.{body_names}
-use Rattle.xd_pattern_runs.proofs.LinearFaults.{no_faults, no_fault_is_linear}
+use Rattle.xd_pattern_runs.proofs.LinearFaults.{no_fault_is_linear}
 
-no_word : (xs : List (List ℕ)) (x : List ℕ) → xs ≡ [] → has_word xs x ≡ false
+pub no_word : (xs : List (List ℕ)) (x : List ℕ) → xs ≡ [] → has_word xs x ≡ false
 no_word xs x e = ap (λ z. has_word z x) e
 
 -- a pattern without variables is linear
@@ -56,25 +57,25 @@ mutual
   in_expression P scope (Variable p x) h A m = absurd m
   in_expression P scope (Tagged p l e) h A m = in_expression P scope e h A m
   in_expression P scope (Joined p e f) h A m =
-      let k = no_faults (expression_faults P scope e) (expression_faults P scope f) h in
+      let k = append_none_parts (expression_faults P scope e) (expression_faults P scope f) h in
       elim (mem_append A (patterns_in e) (patterns_in f) m) [ inl a ↦ in_expression P scope e k.0 A a | inr b ↦ in_expression P scope f k.1 A b ]
   in_expression P scope (Called p f es) h A m =
-      let k = no_faults (call_faults (function_of P.functions f) p f (argument_count es)) (argument_faults P scope es) h in in_arguments P scope es k.1 A m
+      let k = append_none_parts (call_faults (function_of P.functions f) p f (argument_count es)) (argument_faults P scope es) h in in_arguments P scope es k.1 A m
   in_expression P scope (Matched p e cs) h A m =
-      let k = no_faults (expression_faults P scope e) (clause_faults P scope cs) h in
+      let k = append_none_parts (expression_faults P scope e) (clause_faults P scope cs) h in
       elim (mem_append A (patterns_in e) (patterns_in_clauses cs) m) [ inl a ↦ in_expression P scope e k.0 A a | inr b ↦ in_clauses P scope cs k.1 A b ]
 
   in_arguments : (P : ProgramTree) (scope : List (List ℕ)) (es : Arguments) → argument_faults P scope es ≡ [] → (A : PlacedTree) → Among A (patterns_in_arguments es) → pattern_faults (known_types P) A ≡ []
   in_arguments P scope no_argument h A m = absurd m
   in_arguments P scope (argument e es) h A m =
-      let k = no_faults (expression_faults P scope e) (argument_faults P scope es) h in
+      let k = append_none_parts (expression_faults P scope e) (argument_faults P scope es) h in
       elim (mem_append A (patterns_in e) (patterns_in_arguments es) m) [ inl a ↦ in_expression P scope e k.0 A a | inr b ↦ in_arguments P scope es k.1 A b ]
 
   in_clauses : (P : ProgramTree) (scope : List (List ℕ)) (cs : Clauses) → clause_faults P scope cs ≡ [] → (A : PlacedTree) → Among A (patterns_in_clauses cs) → pattern_faults (known_types P) A ≡ []
   in_clauses P scope no_clause h A m = absurd m
   in_clauses P scope (clause Q e cs) h A m =
-      let j = no_faults (pattern_faults (known_types P) Q ++ expression_faults P (variables Q ++ scope) e) (clause_faults P scope cs) h in
-      let k = no_faults (pattern_faults (known_types P) Q) (expression_faults P (variables Q ++ scope) e) j.0 in
+      let j = append_none_parts (pattern_faults (known_types P) Q ++ expression_faults P (variables Q ++ scope) e) (clause_faults P scope cs) h in
+      let k = append_none_parts (pattern_faults (known_types P) Q) (expression_faults P (variables Q ++ scope) e) j.0 in
       elim m [
         | inl i ↦ subst (λ B. pattern_faults (known_types P) B ≡ []) i k.0
         | inr n ↦ elim (mem_append A (patterns_in e) (patterns_in_clauses cs) n) [ inl a ↦ in_expression P (variables Q ++ scope) e k.1 A a | inr b ↦ in_clauses P scope cs j.1 A b ]

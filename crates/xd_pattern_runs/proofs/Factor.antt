@@ -1,15 +1,18 @@
 -- In a guarded program the choices of a continuation do what the continuation does.
 use Rattle.std.proofs.Common.{◌≡◌, ℕ, suc, zero, ◌+◌, ◌<◌, ◌≤◌, ltb, ltb-true, lt-ltb, arith, Bool, true, false, cond, ◌||◌, List, [], ◌∷◌, ◌++◌, map, flat_map, length, Option, Some, None, refl, ap, sym, subst, ◌∙◌, inl, inr}
 use Rattle.std.specs.Str.{bytes_eq}
+use Rattle.std.proofs.lemmas.Grind.{flat_map-append}
 use Rattle.xd_doc.specs.Document.{Document, empty, text, element, join}
 use Rattle.xd_doc.specs.Classes.{LabelClass, TextClass, class_has}
+use Rattle.xd_doc.proofs.Bools.{or_right}
+use Rattle.xd_doc.proofs.Joins.{join_empty-right, join_assoc}
+use Rattle.xd_doc.proofs.Lists.{map_append, append_none}
 use Rattle.xd_syntax.specs.Words.{has_word}
 use Rattle.xd_syntax.specs.Tree.{Tree, Empty, Text, Words, Name, Elem, Seq, Alt, Star, Plus, Opt, Val, Definitions, body, occurrences}
 use Rattle.xd_meaning.specs.Heads.{all_texts}
 use Rattle.xd_syntax.specs.Fits.{Fits}
 use Rattle.xd_syntax.specs.Ways.{Way, no_item_way, then_way, item_count, is_whole, binding, ways, Among}
 use Rattle.xd_laws.specs.Guarded.{Front, Step, Guarded, Defined}
-use Rattle.xd_laws.proofs.Documents.{join_assoc, join_empty-right}
 use Rattle.xd_syntax.specs.Fits as F
 use Rattle.xd_laws.specs.Guarded as R
 use Rattle.xd_syntax.proofs.Members.{mem_append, append_left, append_right, mem_map, mem_flat, cond_true, flat_same}
@@ -17,7 +20,7 @@ use Rattle.xd_laws.proofs.Unfoldings.{Trail, trail_short, same_word_eq}
 use Rattle.xd_pattern_runs.specs.Runs.{Piece, Continuation, Choice, stop, take_text, take_element, start, in_place, then_choices, without_stops, one_stop, has_stop, turn_choices, some_turn_choices, choices_by, choices_of_definition, choices_of_name, choices, if_marked}
 use Rattle.xd_pattern_runs.specs.Linear.{BindNothing, IsApart, given, joined}
 use Rattle.xd_pattern_runs.specs.Alike.{Alike}
-use Rattle.xd_pattern_runs.proofs.Alike.{alike_refl, alike_same, alike_sym, alike_trans, alike_append, alike_flat, alike_known, alike_twice, append_none, append_then, flat_append, flat_flat, flat_of_map, map_append_of, map_of_flat, map_of_map, map_each}
+use Rattle.xd_pattern_runs.proofs.Alike.{alike_refl, alike_same, alike_sym, alike_trans, alike_append, alike_flat, alike_known, alike_twice, append_then, flat_flat, flat_of_map, map_of_flat, map_of_map, map_each}
 use Rattle.xd_pattern_runs.proofs.Equations.{turn_ways, ways_seq, ways_plus, ways_star, ways_elem, ways_name, ways_no_name}
 use Rattle.xd_pattern_runs.proofs.Means.{Partial, nothing, and_next, then_each, bind, partial_same, bind_last, bind_each, behind, share, piece_means, means, means_one, means_within, text_parts, with_content, nothing_left, element_parts, does, all_do, place, one_stop_does}
 use Rattle.xd_pattern_runs.proofs.Bindings.{given_append, in_neither, unbound}
@@ -211,7 +214,7 @@ star_means : (E : Definitions) → Guarded E → (xs : List (List ℕ)) (T : Tre
     piece_means E (piece xs (Star T)) d ≡ flat_map (fewer_each (piece_means E (piece xs (Star T))) d) (piece_means E (piece xs T) d) ++ nothing d ∷ []
 star_means E guarded xs T d =
     ap (map (share xs)) (ways_star E guarded T d)
-    ∙ map_append_of (share xs) (flat_map (turn_ways (ways E (Star T)) d) (ways E T d)) (no_item_way d ∷ [])
+    ∙ map_append (share xs) (flat_map (turn_ways (ways E (Star T)) d) (ways E T d)) (no_item_way d ∷ [])
     ∙ ap (λ z. z ++ share xs (no_item_way d) ∷ []) (share_fewer xs (ways E (Star T)) d (ways E T d))
     ∙ ap (λ z. flat_map (fewer_each (piece_means E (piece xs (Star T))) d) (piece_means E (piece xs T) d) ++ z ∷ []) (share_nothing xs d)
 
@@ -220,7 +223,7 @@ turns_alike : (E : Definitions) → Guarded E → (xs : List (List ℕ)) (T : Tr
     Alike (all_do E d (turn_choices (piece xs (Star T)) cs)) (piece_means E (piece xs (Star T)) d)
 turns_alike E guarded xs T d cs h =
     alike_trans
-    (alike_same (flat_append (does E d) (then_choices cs (piece xs (Star T) ∷ []) []) (stop ∷ [])))
+    (alike_same (flat_map-append (does E d) (then_choices cs (piece xs (Star T) ∷ []) []) (stop ∷ [])))
     (alike_trans
     (alike_append
     (alike_trans
@@ -353,10 +356,6 @@ pub or_cases : (a b : Bool) → (a || b) ≡ true → (P : Type 0) → (a ≡ tr
 or_cases true b h P f g = f refl
 or_cases false b h P f g = g h
 
-or_right : (a b : Bool) → (a || b) ≡ false → b ≡ false
-or_right true b h = cc
-or_right false b h = h
-
 pub fine_val : (xs : List (List ℕ)) (y : List ℕ) (T : Tree) → IsFine xs (Val y T) → IsFine (y ∷ xs) T
 fine_val xs y T f = (
   (f.0).1,
@@ -413,10 +412,10 @@ module _ (E : Definitions) (guarded : Guarded E) (none : BindNothing E) (n : ℕ
   factor_by (Alt T U) V xs f t l d =
       let g = fine_alt xs T U f in
       alike_trans (one_stop_does E d (choices_by N xs T ++ choices_by N xs U))
-      (alike_trans (alike_same (flat_append (does E d) (choices_by N xs T) (choices_by N xs U)))
+      (alike_trans (alike_same (flat_map-append (does E d) (choices_by N xs T) (choices_by N xs U)))
       (alike_trans
       (alike_append (factor_by T V xs g.0 (λ y k. t y (R.alt_left k)) l d) (factor_by U V xs g.1 (λ y k. t y (R.alt_right k)) l d))
-      (alike_same (sym (map_append_of (share xs) (ways E T d) (ways E U d))))))
+      (alike_same (sym (map_append (share xs) (ways E T d) (ways E U d))))))
   factor_by (Star T) V xs f t l d = turns_alike E guarded xs T d (choices_by N xs T) (factor_by T V xs f (λ y k. t y (R.star k)) l d)
   factor_by (Plus T) V xs f t l d =
       let i = factor_by T V xs f (λ y k. t y (R.plus k)) l d in
@@ -433,10 +432,10 @@ module _ (E : Definitions) (guarded : Guarded E) (none : BindNothing E) (n : ℕ
       ∙ sym (ap (map (share xs)) (ways_plus E guarded T d))))))
   factor_by (Opt T) V xs f t l d =
       alike_trans (one_stop_does E d (choices_by N xs T ++ stop ∷ []))
-      (alike_trans (alike_same (flat_append (does E d) (choices_by N xs T) (stop ∷ [])))
+      (alike_trans (alike_same (flat_map-append (does E d) (choices_by N xs T) (stop ∷ [])))
       (alike_trans
       (alike_append (factor_by T V xs f (λ y k. t y (R.opt k)) l d) (alike_same (ap (λ z. z ∷ []) (sym (share_nothing xs d)))))
-      (alike_same (sym (map_append_of (share xs) (ways E T d) (no_item_way d ∷ []))))))
+      (alike_same (sym (map_append (share xs) (ways E T d) (no_item_way d ∷ []))))))
   factor_by (Val y T) V xs f t l d =
       alike_trans (factor_by T V (y ∷ xs) (fine_val xs y T f) (λ z k. t z (R.val k)) l d)
       (alike_same (

@@ -3,6 +3,7 @@ use Rattle.std.proofs.Common.{◌≡◌, ℕ, suc, zero, ◌+◌, ◌*◌, ◌�
 use Rattle.std.specs.Str.{bytes_eq}
 use Rattle.std.proofs.lemmas.List.{length-map}
 use Rattle.std.proofs.lemmas.Slice.Eq.{bytes_eq-Decides}
+use Rattle.xd_doc.proofs.Lists.{map_append}
 use Rattle.xd_syntax.specs.Words.{has_word, any_word}
 use Rattle.xd_syntax.specs.Tree.{Tree, Empty, Text, Words, Name, Elem, Seq, Alt, Star, Plus, Opt, Val, Definitions, body, any_type}
 use Rattle.xd_syntax.specs.Placed.{PlacedTree, Empty_at, Text_at, Words_at, Name_at, Elem_at, Seq_at, Alt_at, Star_at, Plus_at, Opt_at, Val_at, unplaced}
@@ -14,6 +15,7 @@ use Rattle.xd_laws.proofs.SoundGuarded.{keeps_none, nothing_kept, pair_of, place
 use Rattle.xd_pattern_runs.specs.Runs.{Continuation}
 use Rattle.xd_pattern_runs.specs.Finite.{IsLow, HaveHeights, HeightsOfSound, FinitelyManyOfSound, AreDistinct, FewReached}
 use Rattle.xd_pattern_runs.proofs.FiniteLaw.{low_more, finitely_many_reached}
+use Rattle.xd_pattern_runs.proofs.Alike.{map_of_map}
 
 -- a name that is used outside every label, and whether nothing follows it
 abbrev NameUse : Type 0
@@ -285,16 +287,8 @@ module _ (E : Definitions) (back : NoneLeadsBack E) where
 abbrev use_of : Use → NameUse
 use_of u = (u.name, u.is_tail)
 
-map_twice : {A B C : Type 0} (f : B → C) (g : A → B) (xs : List A) → map f (map g xs) ≡ map (λ x. f (g x)) xs
-map_twice f g [] = refl
-map_twice f g (x ∷ xs) = ap (λ z. f (g x) ∷ z) (map_twice f g xs)
-
-map_join : {A B : Type 0} (f : A → B) (xs ys : List A) → map f (xs ++ ys) ≡ map f xs ++ map f ys
-map_join f [] ys = refl
-map_join f (x ∷ xs) ys = ap (λ z. f x ∷ z) (map_join f xs ys)
-
 uses_followed : (us : List Use) → map use_of (map not_tail us) ≡ map followed (map use_of us)
-uses_followed us = map_twice use_of not_tail us ∙ sym (map_twice followed use_of us)
+uses_followed us = map_of_map use_of not_tail us ∙ sym (map_of_map followed use_of us)
 
 placed_uses : (T : PlacedTree) → map use_of (top_uses T) ≡ uses_in (unplaced T)
 placed_uses (Empty_at p) = refl
@@ -303,11 +297,11 @@ placed_uses (Words_at p k) = refl
 placed_uses (Name_at p x) = refl
 placed_uses (Elem_at p c T) = refl
 placed_uses (Seq_at p T U) =
-    map_join use_of (map not_tail (top_uses T)) (map (behind_type (unplaced T)) (top_uses U))
+    map_append use_of (map not_tail (top_uses T)) (map (behind_type (unplaced T)) (top_uses U))
     ∙ ap (λ z. z ++ map use_of (map (behind_type (unplaced T)) (top_uses U))) (uses_followed (top_uses T) ∙ ap (map followed) (placed_uses T))
-    ∙ ap (λ z. map followed (uses_in (unplaced T)) ++ z) (map_twice use_of (behind_type (unplaced T)) (top_uses U) ∙ placed_uses U)
+    ∙ ap (λ z. map followed (uses_in (unplaced T)) ++ z) (map_of_map use_of (behind_type (unplaced T)) (top_uses U) ∙ placed_uses U)
 placed_uses (Alt_at p T U) =
-    map_join use_of (top_uses T) (top_uses U) ∙ ap (λ z. z ++ map use_of (top_uses U)) (placed_uses T) ∙ ap (λ z. uses_in (unplaced T) ++ z) (placed_uses U)
+    map_append use_of (top_uses T) (top_uses U) ∙ ap (λ z. z ++ map use_of (top_uses U)) (placed_uses T) ∙ ap (λ z. uses_in (unplaced T) ++ z) (placed_uses U)
 placed_uses (Star_at p T) = uses_followed (top_uses T) ∙ ap (map followed) (placed_uses T)
 placed_uses (Plus_at p T) = uses_followed (top_uses T) ∙ ap (map followed) (placed_uses T)
 placed_uses (Opt_at p T) = placed_uses T

@@ -4,16 +4,18 @@ use Rattle.std.proofs.Common.{◌≡◌, ℕ, ◌≤◌, arith, Bool, cond, not,
 use Rattle.std.proofs.Math.Path.{fun_ext}
 use Rattle.xd_doc.specs.Document.{Document, empty, text, element, join, has_item}
 use Rattle.xd_doc.specs.Classes.{LabelClass, class_has, TextClass}
+use Rattle.xd_doc.proofs.Joins.{join_empty-right, join_assoc}
+use Rattle.xd_doc.proofs.Lists.{append_none}
 use Rattle.xd_syntax.specs.Words.{has_word}
 use Rattle.xd_syntax.specs.Tree.{Definitions}
 use Rattle.xd_syntax.specs.Ways.{Way, item_count, unfoldings, ways, Among}
-use Rattle.xd_laws.proofs.Documents.{join_assoc, join_empty-right, item_count_le}
+use Rattle.xd_laws.proofs.Documents.{item_count_le}
 use Rattle.xd_syntax.proofs.Members.{mem_flat, mem_map, flat_same}
 use Rattle.xd_laws.proofs.WaysFit.{sound}
 use Rattle.xd_pattern_runs.specs.Runs.{Piece, Continuation, Choice, stop, take_text, take_element, in_place, then_choices, without_stops, one_stop, if_marked}
 use Rattle.xd_pattern_runs.specs.Linear.{given, joined}
 use Rattle.xd_pattern_runs.specs.Alike.{Holding, Alike}
-use Rattle.xd_pattern_runs.proofs.Alike.{alike_refl, alike_same, alike_sym, alike_trans, alike_append, alike_each, alike_again, append_none, append_then, flat_flat, flat_of_map, map_of_flat, map_of_map, map_each, map_none}
+use Rattle.xd_pattern_runs.proofs.Alike.{alike_refl, alike_same, alike_sym, alike_trans, alike_append, alike_each, alike_again, append_then, flat_flat, flat_of_map, map_of_flat, map_of_map, map_each, map_none}
 
 -- what variables hold, and what is left of the document
 pub record Partial : Type 0 where

@@ -3,16 +3,17 @@ use Rattle.std.proofs.Common.{◌≡◌, ℕ, suc, zero, Bool, true, false, cond
 use Rattle.std.proofs.Math.Path.{fun_ext}
 use Rattle.xd_doc.specs.Document.{Document, empty, text, element, join}
 use Rattle.xd_doc.specs.Classes.{class_has}
+use Rattle.xd_doc.proofs.Joins.{join_assoc}
+use Rattle.xd_doc.proofs.Lists.{append_none}
 use Rattle.xd_syntax.specs.Tree.{Tree, Empty, Text, Words, Name, Elem, Seq, Alt, Star, Plus, Opt, Val, Definitions, body}
 use Rattle.xd_meaning.specs.Heads.{all_texts}
 use Rattle.xd_syntax.specs.Ways.{Among}
 use Rattle.xd_laws.specs.Guarded.{Guarded}
-use Rattle.xd_laws.proofs.Documents.{join_assoc}
 use Rattle.xd_syntax.proofs.Members.{mem_append, mem_flat, flat_same}
 use Rattle.xd_pattern_runs.specs.Runs.{Piece, Continuation, Choice, stop, take_text, take_element, start, in_place, then_choices, one_stop, has_stop, turn_choices, some_turn_choices, choices_by, choices_of_definition, choices_of_name, choices_within, choices, Run, ended, over_text, over_element, TextMove, ElementMove, texts_of, elements_of, text_runs, element_runs, runs, if_marked, held}
 use Rattle.xd_pattern_runs.specs.Linear.{BindNothing, IsApart}
 use Rattle.xd_pattern_runs.specs.Alike.{Holding, Alike}
-use Rattle.xd_pattern_runs.proofs.Alike.{alike_refl, alike_same, alike_sym, alike_trans, alike_flat, alike_each, alike_map, alike_again, append_none, flat_flat, flat_of_map, map_of_flat, map_of_map, map_each}
+use Rattle.xd_pattern_runs.proofs.Alike.{alike_refl, alike_same, alike_sym, alike_trans, alike_flat, alike_each, alike_map, alike_again, flat_flat, flat_of_map, map_of_flat, map_of_map, map_each}
 use Rattle.xd_pattern_runs.proofs.Means.{Partial, and_next, then_each, bind, means, with_content, nothing_left, does, all_do}
 use Rattle.xd_pattern_runs.proofs.Factor.{piece, IsFine, AreFine, factor, fine_seq, fine_alt, fine_val, fine_none, one_stop_in}
 

@@ -1,4 +1,5 @@
 -- The laws of runs.
+use Rattle.xd_doc.proofs.Joins.{join_empty-right}
 use Rattle.xd_laws.proofs.OrderedBindings.{has_once}
 use Rattle.xd_meaning.specs.Bindings.{variables_of, first_bindings, bindings_in, bound_to}
 use Rattle.std.specs.Prelude.{option_map}
@@ -15,9 +16,9 @@ use Rattle.xd_meaning.specs.FirstMatch.{first, first_whole}
 use Rattle.xd_laws.specs.Guarded.{Guarded}
 use Rattle.xd_meaning.specs.Meaning.{looked_up}
 use Rattle.xd_laws.proofs.Bare.{fits_bare, bare_fits}
-use Rattle.xd_laws.proofs.Documents.{join_empty-right}
 use Rattle.xd_syntax.proofs.Members.{mem_flat, flat_mem, mem_map, map_mem, cond_true}
 use Rattle.xd_laws.proofs.Unfoldings.{takes_fits, fits_takes}
+use Rattle.xd_laws.proofs.FitsWays.{cond_in}
 use Rattle.xd_pattern_runs.specs.Runs.{Run, runs, start, held}
 use Rattle.xd_pattern_runs.specs.Linear.{BindNothing, IsApart, IsLinear, given, joined}
 use Rattle.xd_pattern_runs.specs.Laws.{Agree, GivenOnce, GivenNever, FirstRunIsFirstMatch, RunsAreWays, WaysAreRuns, RunsDecide, run_bindings, first_of}
@@ -191,10 +192,6 @@ first_binds E P d [] None a = refl
 first_binds E P d [] (Some bs) a = absurd a
 first_binds E P d (r ∷ rs) None a = absurd a
 first_binds E P d (r ∷ rs) (Some bs) a = ap (λ z. Some z) (in_order P d r bs a (variables_of P) (has_once (occurrences P)))
-
-cond_in : {A : Type 0} (b : Bool) (x : A) (xs : List A) → b ≡ true → Among x xs → Among x (cond b xs [])
-cond_in true x xs e h = h
-cond_in false x xs e h = cc
 
 -- for a linear pattern
 module _ (E : Definitions) (guarded : Guarded E) (none : BindNothing E) (P : Tree) (l : IsLinear P) (d : Document) (rs : List Run) (h : HoldWays E P d rs) where

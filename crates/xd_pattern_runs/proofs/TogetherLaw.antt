@@ -2,6 +2,7 @@
 -- there.
 use Rattle.std.proofs.Common.{◌≡◌, ℕ, suc, zero, Bool, true, false, cond, ◌||◌, ◌⊎◌, List, [], ◌∷◌, ◌++◌, map, flat_map, length, Option, Some, None, refl, ap, subst, ◌∙◌, inl, inr}
 use Rattle.std.specs.Str.{bytes_eq}
+use Rattle.std.proofs.lemmas.Bool.{or_parts}
 use Rattle.xd_doc.specs.Document.{Document, empty, text, element}
 use Rattle.xd_doc.specs.Classes.{LabelClass, class_has, TextClass}
 use Rattle.xd_syntax.specs.Words.{has_word}
@@ -17,6 +18,7 @@ use Rattle.xd_pattern_runs.specs.Together.{IsFree, free_end, free_text, free_ele
 use Rattle.xd_pattern_runs.proofs.Bindings.{in_neither}
 use Rattle.xd_pattern_runs.proofs.Factor.{piece, one_stop_in}
 use Rattle.xd_pattern_runs.proofs.RunsMean.{by_text, by_element, texts_flat, elements_flat}
+use Rattle.xd_pattern_runs.proofs.ClausesLaw.{no_word}
 
 -- choices that all have a property
 
@@ -183,13 +185,6 @@ ahead_place x K cs f g (take_element c C xs R) (inl q) = have_one (StayAhead x) 
 ahead_place x K cs f g (take_element c C xs R) (inr (inl q)) = have_one (StayAhead x) (take_element c C xs (R ++ K)) (inr (inl (q.0, q.1, open_append x R K q.2 f)))
 ahead_place x K cs f g (take_element c C xs R) (inr (inr q)) = have_one (StayAhead x) (take_element c C xs (R ++ K)) (inr (inr (q.0, q.1, placed_append false x R K q.2 f)))
 
-or_none : (a b : Bool) → (a || b) ≡ false → (a ≡ false) × (b ≡ false)
-or_none true b h = cc
-or_none false b h = (refl, h)
-
-word_lacked : (xs : List (List ℕ)) (x : List ℕ) → xs ≡ [] → has_word xs x ≡ false
-word_lacked xs x e = ap (λ z. has_word z x) e
-
 -- the choices of a part, where the variable is outside of it, or inside
 module _ (N : List (List ℕ) → List ℕ → List Choice) (b : Bool) (x : List ℕ) (named : (xs : List (List ℕ)) (y : List ℕ) → has_word xs x ≡ b → AllHave (StayPlaced b x) (N xs y)) where
   placed_turns : (xs : List (List ℕ)) (T : Tree) (cs : List Choice) → IsPlaced b x xs T → AllHave (StayPlaced b x) cs → AllHave (StayPlaced b x) (then_choices cs (piece xs (Star T) ∷ []) [])
@@ -219,13 +214,13 @@ module _ (N : List (List ℕ) → List ℕ → List Choice) (b : Bool) (x : List
       have_one_stop (StayPlaced b x) (choices_by N xs T ++ stop ∷ [])
       (have_append (StayPlaced b x) (choices_by N xs T) (stop ∷ []) (placed_by T xs f) (have_one (StayPlaced b x) stop tt))
   placed_by (Val y T) xs f =
-      let o = or_none (bytes_eq y x) (has_word (occurrences T) x) f.1 in
+      let o = or_parts (bytes_eq y x) (has_word (occurrences T) x) f.1 in
       placed_by T (y ∷ xs) (ap (λ b. b || has_word xs x) o.0 ∙ f.0, o.1)
 
 -- the choices of a part that has the variable, in no binder of it
 module _ (N : List (List ℕ) → List ℕ → List Choice) (x : List ℕ) (named : (b : Bool) (xs : List (List ℕ)) (y : List ℕ) → has_word xs x ≡ b → AllHave (StayPlaced b x) (N xs y)) where
   clear_all : (xs : List (List ℕ)) (T : Tree) → has_word xs x ≡ false → occurrences T ≡ [] → AllHave (StayAhead x) (choices_by N xs T)
-  clear_all xs T h e c m = open_stays x c (clear_stays x c (placed_by N false x (named false) T xs (h, word_lacked (occurrences T) x e) c m))
+  clear_all xs T h e c m = open_stays x c (clear_stays x c (placed_by N false x (named false) T xs (h, no_word (occurrences T) x e) c m))
 
   -- a sequence, by the part that has the variable
   ahead_seq : (T U : Tree) (xs : List (List ℕ)) → has_word xs x ≡ false → IsLinear U → (has_word (occurrences T) x ≡ true → has_word (occurrences U) x ≡ false) →
@@ -270,7 +265,7 @@ names_placed : (E : Definitions) → BindNothing E → (x : List ℕ) (n : ℕ) 
 names_placed E none x zero b xs y h = λ c m. absurd m
 names_placed E none x (suc n) b xs y h =
     of_definition (StayPlaced b x) (choices_by (choices_of_name E n) xs) (body E y) (λ T e.
-    placed_by (choices_of_name E n) b x (λ zs z. names_placed E none x n b zs z) T xs (h, word_lacked (occurrences T) x (none y T e)))
+    placed_by (choices_of_name E n) b x (λ zs z. names_placed E none x n b zs z) T xs (h, no_word (occurrences T) x (none y T e)))
 
 -- the choices of a continuation
 

@@ -4,6 +4,7 @@ use Rattle.std.proofs.lemmas.Bool.Decides.{nat_tests}
 use Rattle.std.proofs.Math.ListN.{get_or-append}
 use Rattle.std.proofs.Math.Seq.{get_or-append_seam}
 use Rattle.std.specs.List.{AllByRecursion, AllZip, slice_get}
+use Rattle.xd_doc.proofs.Numbers.{less_cases}
 use Rattle.xd_syntax.specs.Tree.{Definitions, Tree}
 use Rattle.xd_auto.specs.declared.auto.State.{State}
 use Rattle.xd_auto.specs.declared.auto.LabelMove.{LabelMove}
@@ -32,12 +33,6 @@ rows_push (x ∷ rs) r = ap (λ z. (x.texts.items, x.labels.items) ∷ z) (rows_
 
 row_last : (rs : List (List ℕ × List ℕ)) (r : List ℕ × List ℕ) (i : ℕ) → i ≡ length rs → get_or (rs ++ r ∷ []) i ([], []) ≡ r
 row_last rs r i e = ap (λ n. get_or (rs ++ r ∷ []) n ([], [])) e ∙ get_or-append_seam rs r [] ([], [])
-
-less_cases : (i n : ℕ) → i < n + 1 → (i < n) ⊎ (i ≡ n)
-less_cases zero zero h = inr refl
-less_cases zero (suc n) h = inl (omega arith)
-less_cases (suc i) zero h = absurd (omega arith)
-less_cases (suc i) (suc n) h = elim (less_cases i n (omega arith)) [ inl l ↦ inl (omega arith) | inr e ↦ inr (omega arith) ]
 
 pub compiling_none : (E : Definitions) (t : Tables) (m : List (Link ℕ)) (c : List (Link Piece)) (base : ℕ) (states : List ℕ) (auto : Automaton) → ArePieces t m c → AllByRecursion (λ n. n ≤ length c) states → length auto ≡ base + length states →
     ((s : State) → base ≤ state_number s → moves_at auto s ≡ no_moves false) → IsCompiling E t m m c c base states states auto auto 0 []

@@ -3,6 +3,9 @@ use Rattle.std.proofs.Common.{◌≡◌, ℕ, zero, suc, ◌+◌, ◌-◌, ◌�
 use Rattle.std.proofs.lemmas.Bool.Decides.{nat_tests}
 use Rattle.std.proofs.lemmas.List.{reverse-append}
 use Rattle.std.specs.List.{AllZip}
+use Rattle.std.proofs.lemmas.Grind.{flat_map-append}
+use Rattle.xd_doc.proofs.Numbers.{same_number}
+use Rattle.xd_doc.proofs.Lists.{append_none}
 use Rattle.xd_syntax.specs.Tree.{Definitions}
 use Rattle.xd_syntax.specs.Ways.{Among}
 use Rattle.xd_syntax.proofs.Members.{append_left, append_right, flat_mem, mem_append, mem_flat}
@@ -10,7 +13,7 @@ use Rattle.xd_laws.specs.Guarded.{Guarded}
 use Rattle.xd_pattern_runs.specs.Alike.{Alike}
 use Rattle.xd_pattern_runs.specs.Runs.{Choice, Continuation, stop, choices}
 use Rattle.xd_pattern_runs.specs.Steps.{Ahead, ahead, choices_ahead, part_choice, part_steps}
-use Rattle.xd_pattern_runs.proofs.Alike.{alike_refl, alike_same, alike_sym, alike_trans, alike_append, alike_known, append_none, append_then, flat_append}
+use Rattle.xd_pattern_runs.proofs.Alike.{alike_refl, alike_same, alike_sym, alike_trans, alike_append, alike_known, append_then}
 use Rattle.xd_pattern_runs.proofs.ChoicesLemmas.{steps_find}
 use Rattle.xd_continuations.specs.Chains.{list_at, AreLinks}
 use Rattle.xd_patterns.specs.Tasks.{Tables, AreBodies, words_at, piece_part, pieces_at, continuation, ArePieces, or_none, IsTurn, StandsFor, item_choice, choice_at, IsFound, StandFound, Collects, Adds, HasFound, IsStep}
@@ -34,9 +37,6 @@ nothing_front : {A : Type 0} (F K : List A) → [] ≡ F ++ K → (F ≡ []) × 
 nothing_front [] K e = (refl, sym e)
 nothing_front (x ∷ F) K e = cc
 
-same_nat : (k n : ℕ) → nat_eq k n ≡ true → k ≡ n
-same_nat k n e = grind (arith, nat_tests)
-
 other_nat : (k n : ℕ) → nat_eq k n ≡ false → k ≡ n → ⊥
 other_nat k n e h = grind (arith, nat_tests)
 
@@ -46,7 +46,7 @@ module _ (E : Definitions) (t : Tables) (m : List (Link ℕ)) (c : List (Link Pi
   at_end None n F u e i l = absurd (cc)
   at_end (Some k) n F None e i l = absurd i
   at_end (Some k) n F (Some K) e i l =
-      let s = same_nat k n e in (no_front F K (sym i.1 ∙ ap (list_at c) s ∙ l), (K, refl))
+      let s = same_number k n e in (no_front F K (sym i.1 ∙ ap (list_at c) s ∙ l), (K, refl))
 
   pub end_expanded : (xs : List Task) (fs : List Found) (x : Task) (a : Ahead) → ends_turn x.turn x.cell ≡ true → StandsFor t m c x a → IsExpanded E t m m c c xs xs fs fs a
   end_expanded xs fs x a e s =
@@ -425,7 +425,7 @@ module _ (E : Definitions) (t : Tables) (m0 : List (Link ℕ)) (c0 : List (Link 
           alike =
               alike_trans
               (alike_append g.items.alike
-              (alike_same (ap (flat_map (choices_ahead E)) (reverse-append w.0 (reverse g.left) ∙ ap (λ vs. vs ++ reverse w.0) (rev_rev g.left)) ∙ flat_append (choices_ahead E) g.left (reverse w.0))))
+              (alike_same (ap (flat_map (choices_ahead E)) (reverse-append w.0 (reverse g.left) ∙ ap (λ vs. vs ++ reverse w.0) (rev_rev g.left)) ∙ flat_map-append (choices_ahead E) g.left (reverse w.0))))
               (alike_trans
               (alike_same (
               append_then (map (choice_at t m' c') fs) g.own (flat_map (choices_ahead E) g.left ++ rest)

@@ -4,6 +4,8 @@ use Rattle.std.proofs.lemmas.Bool.Decides.{nat_tests}
 use mathlib.Core.Bool.{beq}
 use Rattle.std.specs.List.{list_any}
 use Rattle.std.specs.Prelude.{if◌then◌else◌}
+use Rattle.xd_doc.proofs.Bools.{and_parts}
+use Rattle.xd_doc.proofs.Numbers.{number_same}
 use Rattle.xd_syntax.specs.Ways.{Among}
 use Rattle.std.specs.Option.{option_eq}
 use Rattle.xd_patterns.specs.Tasks.{HasFound}
@@ -11,7 +13,6 @@ use Rattle.xd_patterns.specs.Expanding.{Enters}
 use Rattle.xd_patterns.specs.declared.expand.Task.{Task}
 use Rattle.xd_patterns.specs.declared.chains.Piece.{Piece}
 use Rattle.xd_patterns.specs.declared.expand.Found.{Found}
-use Rattle.xd_continuations.proofs.LinkTests.{both, same_number}
 
 any_among : {A : Type 0} (test : A → Bool) (x : A) → ((y : A) → test y ≡ true → y ≡ x) → (ys : List A) → list_any test ys ≡ true → Among x ys
 any_among test x right [] h = cc
@@ -46,12 +47,12 @@ same_turn : (o u : Option ℕ) → option_eq nat_eq o u ≡ true → u ≡ o
 same_turn None None h = refl
 same_turn None (Some n) h = cc
 same_turn (Some m) None h = cc
-same_turn (Some m) (Some n) h = ap Some (same_number m n h)
+same_turn (Some m) (Some n) h = ap Some (number_same m n h)
 
 same_task : (x y : Task) → task_test x y ≡ true → y ≡ x
 same_task x y h =
-    let a = both (nat_eq x.cell y.cell) (option_eq nat_eq x.turn y.turn) h in
-    ap (λ (n : ℕ). let r : Task = record { cell = n; turn = y.turn } in r) (same_number x.cell y.cell a.0)
+    let a = and_parts (nat_eq x.cell y.cell) (option_eq nat_eq x.turn y.turn) h in
+    ap (λ (n : ℕ). let r : Task = record { cell = n; turn = y.turn } in r) (number_same x.cell y.cell a.0)
     ∙ ap (λ (o : Option ℕ). let r : Task = record { cell = x.cell; turn = o } in r) (same_turn x.turn y.turn a.1)
 
 pub enters : (old new : List Task) (x : Task) (first : Bool) → new ≡ (if list_any (task_test x) old then old else old ++ x ∷ []) → first ≡ not (list_any (task_test x) old) → Enters old x new first

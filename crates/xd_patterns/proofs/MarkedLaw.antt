@@ -4,6 +4,7 @@ use Rattle.std.specs.List.{Contains, slice_get}
 use Rattle.std.proofs.lemmas.Option.{get_or_from_slice_get}
 use Rattle.xd_doc.specs.Document.{Document, empty, text, element}
 use Rattle.xd_doc.specs.Classes.{class_has}
+use Rattle.xd_doc.proofs.Lists.{map_append}
 use Rattle.xd_auto.specs.declared.auto.State.{State}
 use Rattle.xd_auto.specs.declared.auto.LabelMove.{LabelMove}
 use Rattle.xd_auto.specs.declared.auto.TextMove.{TextMove}
@@ -20,7 +21,7 @@ use Rattle.xd_pattern_runs.specs.Runs.{Run, ended, over_text, over_element, text
 use Rattle.xd_pattern_runs.specs.Linear.{BindNothing, IsLinear}
 use Rattle.xd_pattern_runs.specs.Laws.{Agree, run_bindings, first_of}
 use Rattle.xd_pattern_runs.specs.Mirrors.{AreRunsOf, Mirrors, Ahead}
-use Rattle.xd_pattern_runs.proofs.Alike.{flat_of_map, map_append_of, map_of_flat, map_of_map}
+use Rattle.xd_pattern_runs.proofs.Alike.{flat_of_map, map_of_flat, map_of_map}
 use Rattle.xd_pattern_runs.proofs.MirrorsLaw.{mirrors_run_of}
 use Rattle.xd_patterns.specs.Marked.{Marking, marked_text, marked_label, with_each, marked_moves, no_text_move, no_label_move, with_marks, IsCompiled}
 
@@ -45,11 +46,11 @@ each_marked : {A B : Type 0} (F : List (List ℕ) → A → B) (W : Numbered.Run
     ((n : ℕ) (m : A) → slice_get moves n ≡ Some m → map W (f n m) ≡ G (F (get_or ms n []) m)) → map W (from_each f moves) ≡ flat_map G (with_each F ms moves)
 each_marked F W G f ms [] h = refl
 each_marked F W G f [] (m ∷ moves) h =
-    map_append_of W (f 0 m) (from_each (λ n. f (suc n)) moves)
+    map_append W (f 0 m) (from_each (λ n. f (suc n)) moves)
     ∙ ap (λ z. z ++ map W (from_each (λ n. f (suc n)) moves)) (h 0 m refl)
     ∙ ap (λ z. G (F [] m) ++ z) (each_marked F W G (λ n. f (suc n)) [] moves (λ n q e. h (suc n) q e))
 each_marked F W G f (xs ∷ ms) (m ∷ moves) h =
-    map_append_of W (f 0 m) (from_each (λ n. f (suc n)) moves)
+    map_append W (f 0 m) (from_each (λ n. f (suc n)) moves)
     ∙ ap (λ z. z ++ map W (from_each (λ n. f (suc n)) moves)) (h 0 m refl)
     ∙ ap (λ z. G (F xs m) ++ z) (each_marked F W G (λ n. f (suc n)) ms moves (λ n q e. h (suc n) q e))
 

@@ -14,9 +14,10 @@ use Rattle.xd_pattern_runs.specs.Runs.{held}
 use Rattle.xd_pattern_runs.specs.Laws.{Agree, run_bindings, first_of}
 use Rattle.xd_pattern_runs.specs.Together as T
 use Rattle.xd_pattern_runs.specs.Together.{IsFree, IsBlock, AreTogether}
+use Rattle.xd_continuations.proofs.LeadsToLemmas.{among_has}
 use Rattle.xd_patterns.specs.CompiledProgram.{AreWithin}
 use Rattle.xd_patterns.specs.Marked.{Marking, no_text_move, no_label_move, with_marks, IsCompiled}
-use Rattle.xd_patterns.proofs.VariableLemmas.{variables_have, among_word}
+use Rattle.xd_patterns.proofs.VariableLemmas.{variables_have}
 
 module _ (a : Automaton) (k k' : Marking) (x : List ℕ) where
   -- each move has the mark or lacks it as before
@@ -104,4 +105,4 @@ kept_is_compiled E P a k k' s vs within h c = record {
 
     firsts : (d : Document) (rs : List Numbered.Run) → option_map (run_bindings (variables_of P) d) (first_of (map (with_marks a k' s) rs)) ≡ option_map (run_bindings (variables_of P) d) (first_of (map (with_marks a k s) rs))
     firsts d [] = refl
-    firsts d (r ∷ rs) = ap Some (bindings d r (variables_of P) (λ x i. among_word (variables_of P) x i))
+    firsts d (r ∷ rs) = ap Some (bindings d r (variables_of P) (λ x i. among_has (variables_of P) x i))

@@ -2,13 +2,13 @@
 use Rattle.std.proofs.Common.{◌≡◌, ℕ, zero, suc, ◌+◌, ◌<◌, ◌≤◌, ◌⊎◌, arith, true, false, cond, List, [], ◌∷◌, ◌++◌, map, length, append-nil, append_assoc, get_or, refl, ap, sym, subst, ◌∙◌, inl, inr}
 use Rattle.std.specs.List.{AllByRecursion}
 use Rattle.xd_doc.specs.Classes.{LabelClass, TextClass}
+use Rattle.xd_doc.proofs.Lists.{all_more, map_append}
 use Rattle.xd_syntax.specs.Tree.{Tree, Elem, Definitions}
 use Rattle.xd_auto.specs.declared.auto.State.{State}
 use Rattle.xd_auto.specs.Automaton.{Automaton, moves_at, no_moves, state_number}
 use Rattle.xd_pattern_runs.specs.Runs as Runs
 use Rattle.xd_pattern_runs.specs.Runs.{Continuation, Choice, take_text, take_element, start, choices}
 use Rattle.xd_pattern_runs.specs.Steps.{marked}
-use Rattle.xd_pattern_runs.proofs.Alike.{map_append_of}
 use Rattle.xd_continuations.specs.Chains.{list_at, KeepsLinks, HasLink}
 use Rattle.xd_patterns.specs.Pieces.{part_of, IsLike, form_at, variable_of}
 use Rattle.xd_patterns.specs.Tasks.{Tables, rows_of, words_at, piece_part, piece_at, continuation, ArePieces, item_choice, choice_at, IsFound, StandFound, Adds}
@@ -18,7 +18,6 @@ use Rattle.xd_continuations.specs.declared.links.Link.{Link}
 use Rattle.xd_patterns.specs.declared.chains.Piece.{Piece}
 use Rattle.xd_patterns.specs.declared.expand.Found.{Found}
 use Rattle.xd_continuations.proofs.ChainLemmas.{list_none, kept_length}
-use Rattle.xd_continuations.proofs.FiniteLemmas.{all_same}
 use Rattle.xd_patterns.proofs.TablesLemmas.{adds_none, adds_then, adds_link}
 use Rattle.xd_patterns.proofs.StepArms.{like_piece, like_part}
 use Rattle.xd_patterns.proofs.Expansion.{found_choice}
@@ -54,7 +53,7 @@ module _ (t : Tables) (m : List (Link ℕ)) (c : List (Link Piece)) (base : ℕ)
       let none : words_at t m q.marks ≡ [] = ap (words_at t m) like.marked ∙ ap (map (λ i. variable_of (form_at t.patterns i))) (list_none m) in
       let inside : continuation t m c' k ≡ start T =
       ap (map (piece_at t m)) (list ∙ ap (λ z. q ∷ z) (list_none c)) ∙ ap (λ xs. marked xs T ∷ []) none in
-      let bound : AllByRecursion (λ n. n ≤ length c') states = all_same (λ n. n ≤ length c) (λ n. n ≤ length c') states (λ n h. omega arith) ns in
+      let bound : AllByRecursion (λ n. n ≤ length c') states = all_more (λ n. n ≤ length c) (λ n. n ≤ length c') states (λ n h. omega arith) ns in
       subst (AddsMove t m c c' base states states' auto auto' from ts ts' ls ls')
       (ap (λ C. take_element v C (words_at t m f.piece.marks) (continuation t m c' f.rest)) inside
       ∙ ap (λ K. take_element v (start T) (words_at t m f.piece.marks) K) (continuation_kept t m m c c' a p f.rest found.rest)
@@ -92,7 +91,7 @@ module _ (t : Tables) (m : List (Link ℕ)) (c : List (Link Piece)) (base : ℕ)
         pieces = a.grows.adds.pieces i.pieces;
         bounded = a.grows.numbers i.bounded;
         has =
-            subst (HasMoves t m (standing t m d' base x') (moves_at b' from) ts' ls') (sym (map_append_of (choice_at t m c) fs (f ∷ [])))
+            subst (HasMoves t m (standing t m d' base x') (moves_at b' from) ts' ls') (sym (map_append (choice_at t m c) fs (f ∷ [])))
             (subst (λ ch. HasMoves t m (standing t m d' base x') (moves_at b' from) ts' ls' (map (choice_at t m c) fs ++ ch ∷ [])) e (a.has (map (choice_at t m c) fs) i.has));
       }
 
@@ -117,7 +116,7 @@ makes E t m m' c d c' base number states states' auto auto' from ts ls fs ns cou
 }
 
 pub numbers_grow : (t : Tables) (m m' : List (Link ℕ)) (c c' : List (Link Piece)) → Adds t m m' c c' → (ns : List ℕ) → AllByRecursion (λ n. n ≤ length c) ns → AllByRecursion (λ n. n ≤ length c') ns
-numbers_grow t m m' c c' a ns h = let l = kept_length c c' a.cells in all_same (λ n. n ≤ length c) (λ n. n ≤ length c') ns (λ n k. omega arith) h
+numbers_grow t m m' c c' a ns h = let l = kept_length c c' a.cells in all_more (λ n. n ≤ length c) (λ n. n ≤ length c') ns (λ n k. omega arith) h
 
 pub found_at : (t : Tables) (m : List (Link ℕ)) (c : List (Link Piece)) (fs : List Found) (i : ℕ) (d : Found) → StandFound t m c fs → i < length fs → ((get_or fs i d).is_stop ≡ true) ⊎ IsFound t m c (get_or fs i d)
 found_at t m c [] i d s h = absurd (omega arith)

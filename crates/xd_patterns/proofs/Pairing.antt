@@ -1,5 +1,5 @@
 -- Lists that go together one for one.
-use Rattle.std.proofs.Common.{ℕ, zero, suc, ◌<◌, ◌≤◌, arith, List, [], ◌∷◌, ◌++◌, map, length, get_or, take, drop}
+use Rattle.std.proofs.Common.{◌≤◌, arith, List, [], ◌∷◌, ◌++◌, map, length, get_or, take, drop}
 use Rattle.std.specs.List.{AllByRecursion}
 use Rattle.xd_meaning.specs.KeptFaults.{AllPaired}
 
@@ -48,8 +48,3 @@ paired_room R f (x ∷ xs) zs (y ∷ ys) h = let i = paired_room R f xs zs ys h.
 pub paired_one : {A B : Type 0} (R : A → B → Type 0) (x : A) (ys : List B) (d : B) → AllPaired R (x ∷ []) ys → R x (get_or ys 0 d)
 paired_one R x [] d h = absurd h
 paired_one R x (y ∷ ys) d h = h.0
-
-pub each_at : {A : Type 0} (P : A → Type 0) (xs : List A) (i : ℕ) (d : A) → AllByRecursion P xs → i < length xs → P (get_or xs i d)
-each_at P [] i d a h = absurd (omega arith)
-each_at P (x ∷ xs) zero d a h = a.0
-each_at P (x ∷ xs) (suc i) d a h = each_at P xs i d a.1 (omega arith)

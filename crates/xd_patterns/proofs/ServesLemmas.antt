@@ -1,12 +1,12 @@
 -- What compiles patterns knows what the names of its program stand for.
 use Rattle.std.proofs.Common.{◌≡◌, ℕ, ◌<◌, arith, List, length, Some, ap, sym, subst, ◌∙◌}
+use Rattle.xd_doc.proofs.Lists.{all_more}
 use Rattle.xd_syntax.specs.Words.{any_word}
 use Rattle.xd_syntax.specs.Tree.{any_type}
-use Rattle.xd_syntax.specs.Table.{Row, tree_at}
+use Rattle.xd_syntax.specs.Table.{tree_at}
 use Rattle.xd_syntax.specs.Kept.{ProgramTable, ProgramStands, TypeDefStands}
 use Rattle.xd_syntax.specs.declared.types.TypeDef.{TypeDef}
 use Rattle.xd_continuations.proofs.GrownTables.{tree_stays, more_rows}
-use Rattle.xd_continuations.proofs.FiniteLemmas.{all_same}
 use Rattle.xd_patterns.specs.Bodies.{IsNodeOf, node_of}
 use Rattle.xd_patterns.specs.Tasks.{AreBodies, meanings}
 use Rattle.xd_patterns.specs.Compiler.{Serves, ServesStays}
@@ -42,12 +42,5 @@ serves_stays p q c s a e =
 pub serves_bodies : (p : ProgramTable) (c : PatternCompiler) → ProgramStands p → Serves p c → AreBodies p.types (meanings p.types p.type_defs) (node_of c.bodies)
 serves_bodies p c stands s =
     are_bodies p.types p.type_defs c.bodies.any (node_of c.bodies)
-    (all_same (TypeDefStands p.types) (λ (d : TypeDef). d.body.at < length p.types) p.type_defs (λ d t. t.body) stands.type_defs)
+    (all_more (TypeDefStands p.types) (λ (d : TypeDef). d.body.at < length p.types) p.type_defs (λ d t. t.body) stands.type_defs)
     s.any_there s.any_is s.names
-
--- types and definitions that are those of the program
-pub along : (p : ProgramTable) (types : List Row) (ds : List TypeDef) (Q : List Row → List TypeDef → Type 0) → types ≡ p.types → ds ≡ p.type_defs → Q p.types p.type_defs → Q types ds
-along p types ds Q e f q = subst (λ d. Q types d) (sym f) (subst (λ t. Q t p.type_defs) (sym e) q)
-
-pub back_along : (p : ProgramTable) (types : List Row) (ds : List TypeDef) (Q : List Row → List TypeDef → Type 0) → types ≡ p.types → ds ≡ p.type_defs → Q types ds → Q p.types p.type_defs
-back_along p types ds Q e f q = subst (λ d. Q p.types d) f (subst (λ t. Q t ds) e q)

@@ -1,6 +1,7 @@
 -- States for pieces alone, and what they are at the end.
 use Rattle.std.proofs.Common.{◌≡◌, ℕ, zero, suc, ◌-◌, ◌≤◌, arith, false, List, [], ◌∷◌, ◌++◌, length, get_or, Some, refl, ap, sym, subst, ◌∙◌}
 use Rattle.std.specs.List.{AllByRecursion, slice_get}
+use Rattle.xd_doc.proofs.Lists.{all_more, all_front, all_back}
 use Rattle.xd_auto.specs.declared.auto.State.{State}
 use Rattle.xd_auto.specs.Automaton.{Automaton, moves_at, no_moves, state_number}
 use Rattle.xd_laws.specs.Guarded.{Guarded}
@@ -14,13 +15,12 @@ use Rattle.xd_pattern_runs.specs.Linear.{BindNothing}
 use Rattle.xd_continuations.specs.Chains.{list_at, HasLink, KeepsLinks}
 use Rattle.xd_continuations.specs.declared.links.Link.{Link}
 use Rattle.xd_continuations.proofs.ChainLemmas.{has_kept, kept_list, kept_length, list_none}
-use Rattle.xd_continuations.proofs.FiniteLemmas.{all_same}
 use Rattle.xd_patterns.specs.declared.chains.Piece.{Piece}
 use Rattle.xd_patterns.specs.CompiledProgram.{IsLinearPattern}
 use Rattle.xd_patterns.specs.Starting.{type_piece, pattern_piece, CanStart, StandsAlone, AddsStarts, IsPieceState}
 use Rattle.xd_patterns.specs.Tasks.{Tables, IsPiece, ArePieces, piece_part}
 use Rattle.xd_patterns.specs.Compiling.{AddsStates, FindsState, IsCompiling, marking, standing}
-use Rattle.xd_patterns.proofs.TablesLemmas.{adds_link, all_left, all_right}
+use Rattle.xd_patterns.proofs.TablesLemmas.{adds_link}
 use Rattle.xd_patterns.proofs.StateLemmas.{finds_adds, finds_bounded, adds_states_then, there_kept, get_kept}
 use Rattle.xd_patterns.proofs.CompileLemmas.{compiled_mirrors, start_stands, get_within}
 use Rattle.xd_patterns.proofs.MarkedLaw.{mirrored_is_compiled}
@@ -36,7 +36,7 @@ pub can_start_pattern : (t : Tables) (id : PatternId) → IsLinearPattern t.patt
 can_start_pattern t id h = record { piece = record { there = h.there; part = tt }; outside = refl; linear = h.linear }
 
 pub are_pieces : (t : Tables) (m : List (Link ℕ)) (qs : List Piece) → AllByRecursion (CanStart t) qs → AllByRecursion (IsPiece t m) qs
-are_pieces t m qs a = all_same (CanStart t) (IsPiece t m) qs (λ q s. record { piece = s.piece; marked = (let z = s.outside in omega arith) }) a
+are_pieces t m qs a = all_more (CanStart t) (IsPiece t m) qs (λ q s. record { piece = s.piece; marked = (let z = s.outside in omega arith) }) a
 
 -- one after the other
 
@@ -64,9 +64,9 @@ starts_more base qs c c' states states' old auto auto' starts q number s a withi
     let adds : AddsStates base states states' auto auto' = finds_adds number base states states' auto auto' s found in
     record {
       pieces = λ t m all.
-          let here = all_right (IsPiece t m) qs (q ∷ []) all in
-          (adds_link t m c c' new here.0 link).pieces (a.pieces t m (all_left (IsPiece t m) qs (q ∷ []) all));
-      bounded = finds_bounded number base states states' auto auto' s found (length c') within (all_same (λ n. n ≤ length c) (λ n. n ≤ length c') states (λ n h. omega arith) a.bounded);
+          let here = all_back (IsPiece t m) qs (q ∷ []) all in
+          (adds_link t m c c' new here.0 link).pieces (a.pieces t m (all_front (IsPiece t m) qs (q ∷ []) all));
+      bounded = finds_bounded number base states states' auto auto' s found (length c') within (all_more (λ n. n ≤ length c) (λ n. n ≤ length c') states (λ n h. omega arith) a.bounded);
       adds = adds_states_then base [] states states' old auto auto' a.adds adds;
       alone =
           paired_end (StandsAlone c' base states') qs starts q s

@@ -3,8 +3,11 @@ use Rattle.std.proofs.Common.{◌≡◌, ℕ, zero, suc, ◌+◌, ◌-◌, ◌<�
 use Rattle.std.proofs.Math.ListN.{length-set}
 use Rattle.std.proofs.lemmas.Bool.Decides.{nat_tests}
 use Rattle.std.specs.List.{AllByRecursion, slice_get}
-use Rattle.std.proofs.lemmas.Slice.Eq.{bytes_eq-Decides}
 use Rattle.xd_doc.specs.Classes.{NameClass, LabelClass, TextClass, is_named}
+use Rattle.xd_doc.proofs.SortedNames.{or_false}
+use Rattle.xd_doc.proofs.Bools.{or_true}
+use Rattle.xd_doc.proofs.Lists.{all_more, all_append}
+use Rattle.xd_auto_pairs.proofs.Universals.{no_names}
 use Rattle.xd_meaning.specs.Heads.{all_texts}
 use Rattle.xd_auto.specs.declared.auto.State.{State}
 use Rattle.xd_auto.specs.declared.auto.LabelMove.{LabelMove}
@@ -19,22 +22,13 @@ use Rattle.xd_patterns.specs.Compiling.{stands, standing, FindsState, AddsStates
 use Rattle.xd_continuations.specs.declared.links.Link.{Link}
 use Rattle.xd_patterns.specs.declared.chains.Piece.{Piece}
 use Rattle.xd_continuations.proofs.ChainLemmas.{kept_list, kept_length, kept_same}
-use Rattle.xd_continuations.proofs.FiniteLemmas.{all_same}
-use Rattle.xd_continuations.proofs.MoveLemmas.{all_append}
 use Rattle.xd_patterns.proofs.TablesLemmas.{list_pieces, same_words, same_pieces, adds_none}
 
 -- a class that names nothing, but is excepted, is that of all texts
 
-first_named : (n : List ℕ) (ns : List (List ℕ)) → is_named (n ∷ ns) n ≡ true
-first_named n ns = ap (λ b. b || is_named ns n) ((bytes_eq-Decides n n).1 refl)
-
-nothing_named : (ns : List (List ℕ)) → ((x : List ℕ) → is_named ns x ≡ false) → ns ≡ []
-nothing_named [] h = refl
-nothing_named (n ∷ ns) h = let e : true ≡ false = sym (first_named n ns) ∙ h n in cc
-
 pub names_nothing : (w : NameClass) (items : List (List ℕ)) → items ≡ [] → ((x : List ℕ) → is_named w.names x ≡ is_named items x) → w.except ≡ true → w ≡ all_texts
 names_nothing w items e h x =
-    let n : w.names ≡ [] = nothing_named w.names (λ y. h y ∙ ap (λ xs. is_named xs y) e) in
+    let n : w.names ≡ [] = no_names w.names (λ y. h y ∙ ap (λ xs. is_named xs y) e) in
     ap (λ (ns : List (List ℕ)). let c : NameClass = record { names = ns; except = w.except } in c) n ∙ ap (λ (b : Bool). let c : NameClass = record { names = []; except = b } in c) x
 
 -- moves of states that are after the others
@@ -186,14 +180,6 @@ stop_more (stop ∷ cs) x = refl
 stop_more (take_text w xs R ∷ cs) x = stop_more cs x
 stop_more (take_element c C xs R ∷ cs) x = stop_more cs x
 
-or_false : (b : Bool) → (b || false) ≡ b
-or_false true = refl
-or_false false = refl
-
-or_true : (b : Bool) → (b || true) ≡ true
-or_true true = refl
-or_true false = refl
-
 pub has_stop_more : (t : Tables) (m : List (Link ℕ)) (A : Ahead State) (v : StateMoves) (ts ls : List ℕ) (cs : List Choice) → HasMoves t m A v ts ls cs → HasMoves t m A (record v { last = true }) ts ls (cs ++ stop ∷ [])
 has_stop_more t m A v ts ls cs x = record {
   last = sym (or_true (has_stop cs)) ∙ sym (stop_more cs stop);
@@ -230,7 +216,7 @@ at_others : (a : Automaton) (s q : State) (v : StateMoves) → (state_number q �
 at_others a s q v h = get_or-set_other a (state_number s) (state_number q) v (no_moves false) h
 
 numbers_kept : (c c' : List (Link Piece)) → KeepsLinks c c' → (ns : List ℕ) → AllByRecursion (λ n. n ≤ length c) ns → AllByRecursion (λ n. n ≤ length c') ns
-numbers_kept c c' k ns a = let l = kept_length c c' k in all_same (λ n. n ≤ length c) (λ n. n ≤ length c') ns (λ n h. omega arith) a
+numbers_kept c c' k ns a = let l = kept_length c c' k in all_more (λ n. n ≤ length c) (λ n. n ≤ length c') ns (λ n h. omega arith) a
 
 module _ (t : Tables) (m : List (Link ℕ)) (c : List (Link Piece)) (base : ℕ) (states : List ℕ) (auto : Automaton) (from : State) (here : state_number from < length auto) (count : length auto ≡ base + length states)
     (p : ArePieces t m c) (ns : AllByRecursion (λ n. n ≤ length c) states) where

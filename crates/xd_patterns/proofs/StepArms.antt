@@ -2,11 +2,11 @@
 use Rattle.std.proofs.Common.{◌≡◌, ℕ, ◌≤◌, arith, Bool, true, false, List, [], ◌∷◌, ◌++◌, map, length, append-nil, Option, Some, None, option_map, refl, ap, sym, subst, ◌∙◌, inr}
 use Rattle.std.specs.List.{AllByRecursion}
 use Rattle.xd_doc.specs.Classes.{LabelClass, TextClass}
+use Rattle.xd_doc.proofs.Lists.{map_append, all_front, all_back}
 use Rattle.xd_syntax.specs.Tree.{Tree, Empty, Text, Words, Name, Elem, Seq, Alt, Star, Plus, Opt, Val, Definitions, body}
 use Rattle.xd_syntax.specs.Table.{tree_at}
 use Rattle.xd_pattern_runs.specs.Runs.{Continuation}
 use Rattle.xd_pattern_runs.specs.Steps.{ahead, marked, behind_turn, part_choice, part_steps, body_steps}
-use Rattle.xd_pattern_runs.proofs.Alike.{map_append_of}
 use Rattle.xd_continuations.specs.Chains.{list_at, KeepsLinks}
 use Rattle.xd_patterns.specs.Pieces.{Sees, form_at, part_of, variable_of, IsLike, IsPieceOf, IsBinder}
 use Rattle.xd_patterns.specs.Tasks.{Tables, rows_of, tree_of_body, AreBodies, words_at, piece_part, piece_at, pieces_at, continuation, IsPiece, ArePieces, or_none, IsTurn, StandsFor, PutsTasks, item_choice, is_item, Collects, Adds, PushesPart, PushesRow, PushesBody, IsBound, HasFound, IsStep}
@@ -16,7 +16,7 @@ use Rattle.xd_patterns.specs.declared.pieces.View.TheVariants as V
 use Rattle.xd_patterns.specs.declared.expand.Task.{Task}
 use Rattle.xd_patterns.specs.declared.expand.Found.{Found}
 use Rattle.xd_continuations.proofs.ChainLemmas.{kept_list, kept_length}
-use Rattle.xd_patterns.proofs.TablesLemmas.{list_pieces, same_pieces, same_turn, all_left, all_right, turn_kept, adds_none, adds_then, adds_link, adds_mark, stands_kept, stands_behind, puts_none, puts_one, puts_two, collects_none, collects_one}
+use Rattle.xd_patterns.proofs.TablesLemmas.{list_pieces, same_pieces, same_turn, turn_kept, adds_none, adds_then, adds_link, adds_mark, stands_kept, stands_behind, puts_none, puts_one, puts_two, collects_none, collects_one}
 
 pub like_piece : (t : Tables) (m : List (Link ℕ)) (b : Bool) (k : ℕ) (q : Piece) → k ≤ length m → IsLike (rows_of t b) b k q → IsPiece t m q
 like_piece t m b k q h l =
@@ -65,8 +65,8 @@ module _ (t : Tables) (E : Definitions) (m : List (Link ℕ)) (c : List (Link Pi
       (λ F u l i p. collects_none t m c fs)
 
   pieces_behind : (F : List Piece) (u : Option (List Piece)) → list_at c behind ≡ F ++ or_none u → continuation t m c behind ≡ pieces_at t m F ++ behind_turn (option_map (pieces_at t m) u)
-  pieces_behind F None l = ap (pieces_at t m) l ∙ map_append_of (piece_at t m) F []
-  pieces_behind F (Some K) l = ap (pieces_at t m) l ∙ map_append_of (piece_at t m) F K
+  pieces_behind F None l = ap (pieces_at t m) l ∙ map_append (piece_at t m) F []
+  pieces_behind F (Some K) l = ap (pieces_at t m) l ∙ map_append (piece_at t m) F K
 
   item_arm : (xs : List Task) (fs gs : List Found) (T : Tree) → is_item T ≡ true → piece_part t q ≡ T → HasFound fs (record { is_stop = false; piece = q; rest = behind }) gs →
       ((F : Continuation) (u : Option Continuation) → item_choice (words_at t m q.marks) T (F ++ behind_turn u) ∷ [] ≡ part_choice (words_at t m q.marks) T F u) →
@@ -245,6 +245,6 @@ module _ (t : Tables) (E : Definitions) (m : List (Link ℕ)) (c : List (Link Pi
             turned = turn_kept c d kc o u i;
             is =
                 ap (λ (ws : List (List ℕ)). ahead (marked ws (piece_part t r) ∷ pieces_at t m F) (option_map (pieces_at t m) u)) (sym words)
-                ∙ ap (λ (K : Continuation). ahead (piece_at t m' r ∷ K) (option_map (pieces_at t m) u)) (sym (same_pieces t m m' km F (all_left (IsPiece t m) F (or_none u) all)))
-                ∙ ap (ahead (piece_at t m' r ∷ pieces_at t m' F)) (sym (same_turn t m m' km u (all_right (IsPiece t m) F (or_none u) all)));
+                ∙ ap (λ (K : Continuation). ahead (piece_at t m' r ∷ K) (option_map (pieces_at t m) u)) (sym (same_pieces t m m' km F (all_front (IsPiece t m) F (or_none u) all)))
+                ∙ ap (ahead (piece_at t m' r ∷ pieces_at t m' F)) (sym (same_turn t m m' km u (all_back (IsPiece t m) F (or_none u) all)));
           }

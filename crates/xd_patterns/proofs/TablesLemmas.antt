@@ -1,13 +1,14 @@
 -- Tasks that are put on others, and choices that are found.
 use Rattle.std.proofs.Common.{◌≡◌, ℕ, ◌≤◌, ◌⊎◌, arith, true, List, [], ◌∷◌, ◌++◌, map, length, append_assoc, append-nil, Option, Some, None, option_map, refl, ap, sym, subst, ◌∙◌, inl, inr}
 use Rattle.std.specs.List.{AllByRecursion, AllZip}
+use Rattle.xd_doc.proofs.Lists.{zip_push, all_more, all_append, map_append, all_front, all_back}
 use Rattle.xd_syntax.specs.Ways.{Among}
 use Rattle.xd_syntax.proofs.Members.{map_mem}
 use Rattle.xd_pattern_runs.specs.Alike.{Alike}
 use Rattle.xd_pattern_runs.specs.Runs as Runs
 use Rattle.xd_pattern_runs.specs.Runs.{Continuation, Choice, stop}
 use Rattle.xd_pattern_runs.specs.Steps.{Ahead, ahead}
-use Rattle.xd_pattern_runs.proofs.Alike.{alike_same, alike_sym, alike_known, map_append_of}
+use Rattle.xd_pattern_runs.proofs.Alike.{alike_same, alike_sym, alike_known}
 use Rattle.xd_continuations.specs.Chains.{list_at, lists_in, HasLink, KeepsLinks}
 use Rattle.xd_patterns.specs.Pieces.{form_at, variable_of, IsBinder}
 use Rattle.xd_patterns.specs.Tasks.{Tables, words_at, piece_part, piece_at, pieces_at, IsPiece, ArePieces, AreBinders, or_none, IsTurn, StandsFor, PutsTasks, choice_at, IsFound, StandFound, Collects, Adds, HasFound}
@@ -16,22 +17,12 @@ use Rattle.xd_patterns.specs.declared.chains.Piece.{Piece}
 use Rattle.xd_patterns.specs.declared.expand.Task.{Task}
 use Rattle.xd_patterns.specs.declared.expand.Found.{Found}
 use Rattle.xd_continuations.proofs.ChainLemmas.{get_all, lists_all, has_kept, kept_list, kept_length, kept_same, kept_then}
-use Rattle.xd_continuations.proofs.FiniteLemmas.{all_same}
-use Rattle.xd_continuations.proofs.MoveLemmas.{all_append}
 
 -- what lists have
 
 pub list_pieces : (t : Tables) (m : List (Link ℕ)) (c : List (Link Piece)) → ArePieces t m c → (n : ℕ) → AllByRecursion (IsPiece t m) (list_at c n)
 unfolding list_at
 list_pieces t m c a n = get_all (IsPiece t m) (lists_in c) (lists_all (IsPiece t m) ([] ∷ []) c (tt, tt) a) n
-
-pub all_left : {A : Type 0} (P : A → Type 0) (xs ys : List A) → AllByRecursion P (xs ++ ys) → AllByRecursion P xs
-all_left P [] ys a = tt
-all_left P (x ∷ xs) ys a = (a.0, all_left P xs ys a.1)
-
-pub all_right : {A : Type 0} (P : A → Type 0) (xs ys : List A) → AllByRecursion P (xs ++ ys) → AllByRecursion P ys
-all_right P [] ys a = a
-all_right P (x ∷ xs) ys a = all_right P xs ys a.1
 
 -- marks stay
 
@@ -66,7 +57,7 @@ adds_link t m c d l i h = record { marks = kept_same m; cells = has_kept c l d h
 pub adds_mark : (t : Tables) (m n : List (Link ℕ)) (c : List (Link Piece)) (l : Link ℕ) → IsBinder t.patterns l.item → HasLink m l n → Adds t m n c c
 adds_mark t m n c l b h =
     let k = has_kept m l n h in
-    record { marks = k; cells = kept_same c; pieces = λ a. all_same (λ (x : Link Piece). IsPiece t m x.item) (λ (x : Link Piece). IsPiece t n x.item) c (λ x i. still_piece t m n k x.item i) a; binders = go h }
+    record { marks = k; cells = kept_same c; pieces = λ a. all_more (λ (x : Link Piece). IsPiece t m x.item) (λ (x : Link Piece). IsPiece t n x.item) c (λ x i. still_piece t m n k x.item i) a; binders = go h }
   where
     go : HasLink m l n → AreBinders t m → AreBinders t n
     go (inl r) a = subst (AreBinders t) (sym r.1) a
@@ -93,8 +84,8 @@ stands_kept t m m' c c' d p x a s =
       list = kept_list c c' d.cells x.cell s.within ∙ s.list;
       turned = turn_kept c c' d.cells x.turn s.turn s.turned;
       is =
-          s.is ∙ ap (λ (F : Continuation). ahead F (option_map (pieces_at t m) s.turn)) (sym (same_pieces t m m' d.marks s.front (all_left (IsPiece t m) s.front (or_none s.turn) all)))
-          ∙ ap (ahead (pieces_at t m' s.front)) (sym (same_turn t m m' d.marks s.turn (all_right (IsPiece t m) s.front (or_none s.turn) all)));
+          s.is ∙ ap (λ (F : Continuation). ahead F (option_map (pieces_at t m) s.turn)) (sym (same_pieces t m m' d.marks s.front (all_front (IsPiece t m) s.front (or_none s.turn) all)))
+          ∙ ap (ahead (pieces_at t m' s.front)) (sym (same_turn t m m' d.marks s.turn (all_back (IsPiece t m) s.front (or_none s.turn) all)));
     }
 
 pub all_stand : (t : Tables) (m m' : List (Link ℕ)) (c c' : List (Link Piece)) → Adds t m m' c c' → ArePieces t m c → (xs : List Task) (ws : List Ahead) →
@@ -103,12 +94,6 @@ all_stand t m m' c c' d p [] [] z = z
 all_stand t m m' c c' d p [] (a ∷ ws) z = absurd z
 all_stand t m m' c c' d p (x ∷ xs) [] z = absurd z
 all_stand t m m' c c' d p (x ∷ xs) (a ∷ ws) z = (stands_kept t m m' c c' d p x a z.0, all_stand t m m' c c' d p xs ws z.1)
-
-pub zip_push : {X Y : Type 0} (R : X → Y → Type 0) (xs : List X) (ys : List Y) (x : X) (y : Y) → AllZip R xs ys → R x y → AllZip R (xs ++ x ∷ []) (ys ++ y ∷ [])
-zip_push R [] [] x y z r = (r, tt)
-zip_push R [] (b ∷ ys) x y z r = absurd z
-zip_push R (a ∷ xs) [] x y z r = absurd z
-zip_push R (a ∷ xs) (b ∷ ys) x y z r = (z.0, zip_push R xs ys x y z.1 r)
 
 -- tasks are put on
 
@@ -146,5 +131,5 @@ collects_one t m c old new f (inl h) i = record {
 }
 collects_one t m c old new f (inr e) i = record {
   stand = λ s. subst (StandFound t m c) (sym e) (all_append (λ (g : Found). (g.is_stop ≡ true) ⊎ IsFound t m c g) old (f ∷ []) s (i, tt));
-  alike = alike_same (ap (map (choice_at t m c)) e ∙ map_append_of (choice_at t m c) old (f ∷ []));
+  alike = alike_same (ap (map (choice_at t m c)) e ∙ map_append (choice_at t m c) old (f ∷ []));
 }

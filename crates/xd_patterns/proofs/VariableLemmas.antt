@@ -1,17 +1,21 @@
 -- The variables of patterns, and lists of them.
-use Rattle.std.proofs.Common.{◌≡◌, ℕ, zero, suc, ◌+◌, ◌<◌, ◌≤◌, ◌&&◌, ◌||◌, not, nat_eq, cond, arith, Bool, true, false, Bor, length, drop, get_or, List, [], ◌∷◌, ◌++◌, map, flat_map, filter, Option, Some, None, refl, ap, sym, subst, ◌∙◌, append-nil, append_assoc, inl, inr}
+use Rattle.std.proofs.Common.{◌≡◌, ℕ, zero, suc, ◌+◌, ◌<◌, ◌≤◌, ◌&&◌, ◌||◌, not, nat_eq, cond, arith, Bool, true, false, Bor, length, drop, get_or, List, [], ◌∷◌, ◌++◌, map, flat_map, filter, Option, Some, None, refl, ap, sym, subst, ◌∙◌, append-nil, append_assoc}
 use Rattle.std.specs.Prelude.{if◌then◌else◌, nat_lt}
 use Rattle.std.specs.List.{AllByRecursion, IsDistinct, list_any, slice_get, position_or_len}
 use Rattle.std.specs.Str.{bytes_eq}
 use Rattle.std.proofs.lemmas.Bool.Decides.{nat_tests}
 use Rattle.std.proofs.lemmas.List.Folds.{flat_map-map}
 use Rattle.xd_base.specs.declared.Place.{Place}
+use Rattle.xd_doc.proofs.SortedNames.{or_false}
+use Rattle.xd_doc.proofs.Bools.{or_assoc, and_false, or_true}
+use Rattle.xd_doc.proofs.Numbers.{number_same, same_eq}
+use Rattle.xd_doc.proofs.Lists.{drop_past, word_itself}
 use Rattle.xd_syntax.specs.Words.{has_word}
+use Rattle.xd_syntax.proofs.PlacedTrees.{variables_in_seq, variables_in_alt}
 use Rattle.xd_meaning.specs.Bindings.{each_once, variables_of}
 use Rattle.xd_syntax.specs.Tree.{Tree, occurrences}
-use Rattle.xd_syntax.specs.Ways.{Among}
 use Rattle.xd_syntax.specs.NameFaults.{without}
-use Rattle.xd_syntax.specs.Placed.{PlacedTree, place_of, placed_seq, placed_alt, variables}
+use Rattle.xd_syntax.specs.Placed.{PlacedTree, variables}
 use Rattle.xd_syntax.specs.PlacedTable.{placed_form, placed_at}
 use Rattle.xd_syntax.specs.Table.{Row}
 use Rattle.xd_syntax.specs.Nodes.{IsNode, form_parts, view_form}
@@ -26,19 +30,8 @@ use Rattle.xd_patterns.specs.declared.variables.Numbers.{Numbers}
 use Rattle.xd_patterns.specs.declared.compile.StateMarks.{StateMarks}
 use Rattle.xd_continuations.specs.declared.links.Link.{Link}
 use Rattle.xd_continuations.proofs.ChainLemmas.{list_none, lists-length}
-use Rattle.xd_continuations.proofs.LinkTests.{itself_number, same_number}
 
 -- occurrences
-
-variables_in_seq : (p : Place) (ts : List PlacedTree) → variables (placed_seq p ts) ≡ flat_map variables ts
-variables_in_seq p [] = refl
-variables_in_seq p (t ∷ []) = sym (append-nil (variables t))
-variables_in_seq p (t ∷ (u ∷ us)) = ap (λ xs. variables t ++ xs) (variables_in_seq (place_of u) (u ∷ us))
-
-variables_in_alt : (p : Place) (ts : List PlacedTree) → variables (placed_alt p ts) ≡ flat_map variables ts
-variables_in_alt p [] = refl
-variables_in_alt p (t ∷ []) = sym (append-nil (variables t))
-variables_in_alt p (t ∷ (u ∷ us)) = ap (λ xs. variables t ++ xs) (variables_in_alt (place_of u) (u ∷ us))
 
 -- what is no variable has the variables of its parts
 variables_of_parts : {I : Type 0} (at : I → ℕ) (t : ℕ → PlacedTree) (p : Place) (f : FormView I) → ((x : Bor (List ℕ)) (q : Place) (i : I) → f ≡ Val x q i → ⊥) →
@@ -55,12 +48,6 @@ variables_of_parts at t p (Plus i) other = sym (append-nil (variables (t (at i))
 variables_of_parts at t p (Opt i) other = sym (append-nil (variables (t (at i))))
 variables_of_parts at t p (Val x q i) other = absurd (other x q i refl)
 
-pub drop_past : {X : Type 0} (xs : List X) (i : ℕ) → length xs ≤ i → drop i xs ≡ []
-drop_past [] zero h = refl
-drop_past [] (suc i) h = refl
-drop_past (x ∷ xs) zero h = absurd (omega arith)
-drop_past (x ∷ xs) (suc i) h = drop_past xs i (omega arith)
-
 -- the end of a walk over the parts of a node
 pub variables_done : {I : Type 0} (at : I → ℕ) (b : Bool) (rows : List Row) (i : ℕ) (p : Place) (f : FormView I) (xs : List I) (n : ℕ) (made old : List (List ℕ)) →
     IsNode b rows i p (view_form at f) → map at xs ≡ form_parts (view_form at f) → ((x : Bor (List ℕ)) (q : Place) (j : I) → f ≡ Val x q j → ⊥) → length xs ≤ n →
@@ -76,10 +63,6 @@ variables_done at b rows i p f xs n made old node e other h loop =
 
 -- words, each once
 
-itself : (w : List ℕ) → bytes_eq w w ≡ true
-itself [] = refl
-itself (c ∷ w) = ap (λ b. b && bytes_eq w w) (itself_number c) ∙ itself w
-
 -- whether two words are equal, and then what is known of them
 word_cases : (P : Bool → Bool → Type 0) (v w : List ℕ) → (v ≡ w → P true true) → P false false → P (bytes_eq v w) (bytes_eq w v)
 word_cases P v w equal other = go (bytes_eq v w) (bytes_eq w v) refl refl
@@ -87,8 +70,8 @@ word_cases P v w equal other = go (bytes_eq v w) (bytes_eq w v) refl refl
     go : (a b : Bool) → bytes_eq v w ≡ a → bytes_eq w v ≡ b → P a b
     go true true e f = equal (same_word_eq v w e)
     go false false e f = other
-    go true false e f = let s = same_word_eq v w e in let k : true ≡ false = sym (itself v) ∙ ap (λ x. bytes_eq x v) s ∙ f in cc
-    go false true e f = let s = same_word_eq w v f in let k : true ≡ false = sym (itself w) ∙ ap (λ x. bytes_eq x w) s ∙ e in cc
+    go true false e f = let s = same_word_eq v w e in let k : true ≡ false = sym (word_itself v) ∙ ap (λ x. bytes_eq x v) s ∙ f in cc
+    go false true e f = let s = same_word_eq w v f in let k : true ≡ false = sym (word_itself w) ∙ ap (λ x. bytes_eq x w) s ∙ e in cc
 
 turned : (v w : List ℕ) → bytes_eq v w ≡ bytes_eq w v
 turned v w = word_cases (λ a b. a ≡ b) v w (λ e. refl) refl
@@ -174,18 +157,6 @@ not_found p (x ∷ xs) e = go (p x) e (λ h. not_found p xs h)
     go true h rec = absurd (omega arith)
     go false h rec = rec (omega arith)
 
-or_false : (b : Bool) → (b || false) ≡ b
-or_false true = refl
-or_false false = refl
-
-or_true : (b : Bool) → (b || true) ≡ true
-or_true true = refl
-or_true false = refl
-
-or_assoc : (a b c : Bool) → (a || (b || c)) ≡ ((a || b) || c)
-or_assoc true b c = refl
-or_assoc false b c = refl
-
 words_push : (vs : List (List ℕ)) (ns : List ℕ) (i : ℕ) (w x : List ℕ) → slice_get vs i ≡ Some w → has_word (words_of vs (ns ++ i ∷ [])) x ≡ (has_word (words_of vs ns) x || bytes_eq w x)
 words_push vs [] i w x g = ap (λ o. has_word (if_some o ++ []) x) g ∙ or_false (bytes_eq w x)
 words_push vs (n ∷ ns) i w x g = go (slice_get vs n) (words_push vs ns i w x g)
@@ -201,16 +172,16 @@ words_have vs (n ∷ ns) i w g e = go (nat_eq n i) refl e (slice_get vs n) refl 
   where
     go : (b : Bool) → nat_eq n i ≡ b → (b || list_any (λ k. nat_eq k i) ns) ≡ true → (o : Option (List ℕ)) → slice_get vs n ≡ o → (list_any (λ k. nat_eq k i) ns ≡ true → has_word (words_of vs ns) w ≡ true) →
         has_word (if_some o ++ words_of vs ns) w ≡ true
-    go true q h None s rec = let k : Some w ≡ None = sym g ∙ ap (slice_get vs) (same_number n i q) ∙ s in cc
+    go true q h None s rec = let k : Some w ≡ None = sym g ∙ ap (slice_get vs) (number_same n i q) ∙ s in cc
     go true q h (Some v) s rec =
-        let k : Some w ≡ Some v = sym g ∙ ap (slice_get vs) (same_number n i q) ∙ s in
-        let z : w ≡ v = cc in ap (λ y. bytes_eq y w || has_word (words_of vs ns) w) (sym z) ∙ ap (λ b. b || has_word (words_of vs ns) w) (itself w)
+        let k : Some w ≡ Some v = sym g ∙ ap (slice_get vs) (number_same n i q) ∙ s in
+        let z : w ≡ v = cc in ap (λ y. bytes_eq y w || has_word (words_of vs ns) w) (sym z) ∙ ap (λ b. b || has_word (words_of vs ns) w) (word_itself w)
     go false q h None s rec = rec h
     go false q h (Some v) s rec = ap (λ b. bytes_eq v w || b) (rec h) ∙ or_true (bytes_eq v w)
 
 word_there : (vs : List (List ℕ)) (i : ℕ) (w : List ℕ) → slice_get vs i ≡ Some w → has_word vs w ≡ true
 word_there [] i w e = cc
-word_there (v ∷ vs) zero w e = let z : v ≡ w = cc in ap (λ y. bytes_eq y w || has_word vs w) z ∙ ap (λ b. b || has_word vs w) (itself w)
+word_there (v ∷ vs) zero w e = let z : v ≡ w = cc in ap (λ y. bytes_eq y w || has_word vs w) z ∙ ap (λ b. b || has_word vs w) (word_itself w)
 word_there (v ∷ vs) (suc i) w e = ap (λ b. bytes_eq v w || b) (word_there vs i w e) ∙ or_true (bytes_eq v w)
 
 -- one variable more
@@ -240,10 +211,6 @@ numbered_more vs ns w ws h x = go (nat_lt (position_or_len (bytes_eq w) vs) (len
 
 -- lists of binders, one after the other
 
-and_false : (b : Bool) → (b && false) ≡ false
-and_false true = refl
-and_false false = refl
-
 pub numbered_none : (patterns : List Row) (vs : List (List ℕ)) (marks : List (Link ℕ)) → AreNumbered patterns vs marks 1 ([] ∷ [])
 numbered_none patterns vs marks = record { count = refl; have = λ n h x. go n x h }
   where
@@ -272,7 +239,7 @@ numbered_next patterns vs marks n ls k l a b list e = record { count = let c = a
   where
     go : (i : ℕ) (t : Bool) → nat_eq i n ≡ t → i < n + 1 → HasVariables patterns vs marks i (get_or (ls ++ l ∷ []) i [])
     go i true q h =
-        let s : n ≡ i = same_number i n q in
+        let s : n ≡ i = number_same i n q in
         let c = a.count in
         subst (λ j. HasVariables patterns vs marks j (get_or (ls ++ l ∷ []) j [])) s
         (subst (HasVariables patterns vs marks n) (sym (get_last ls l n (omega arith)))
@@ -323,11 +290,6 @@ put_has ks (w ∷ xs) x = go (list_any (bytes_eq w) ks) (sym (any_is w ks)) (put
 pub variables_have : (T : Tree) (x : List ℕ) → has_word (variables_of T) x ≡ has_word (occurrences T) x
 variables_have T x = ap (λ ks. has_word ks x) (sym (puts_once (occurrences T))) ∙ put_has [] (occurrences T) x
 
-pub among_word : (ks : List (List ℕ)) (x : List ℕ) → Among x ks → has_word ks x ≡ true
-among_word [] x m = absurd m
-among_word (k ∷ ks) x (inl e) = ap (λ y. bytes_eq y x || has_word ks x) e ∙ ap (λ b. b || has_word ks x) (itself x)
-among_word (k ∷ ks) x (inr m) = ap (λ b. bytes_eq k x || b) (among_word ks x m) ∙ or_true (bytes_eq k x)
-
 pub marks_kept : (patterns : List Row) (vs : List (List ℕ)) (m : List (Link ℕ)) (ls : List (List ℕ)) → AreNumbered patterns vs m (length m + 1) ls → (L : List ℕ) (n : ℕ) (x : List ℕ) →
     has_word (get_or (map (λ l. words_of vs (get_or ls l [])) L) n []) x ≡ (has_word vs x && has_word (get_or (map (λ l. map (λ i. variable_of (form_at patterns i)) (list_at m l)) L) n []) x)
 marks_kept patterns vs m ls a [] n x = sym (and_false (has_word vs x))
@@ -350,7 +312,7 @@ distinct_words : (vs : List (List ℕ)) → IsDistinct bytes_eq vs → (n v : �
     (n ≡ v → bytes_eq w (get_or vs v []) ≡ true) × ((n ≡ v → ⊥) → bytes_eq w (get_or vs v []) ≡ false)
 unfolding IsDistinct
 distinct_words [] d n v w h e = cc
-distinct_words (x ∷ xs) d zero zero w h e = let z : x ≡ w = cc in ((λ q. ap (bytes_eq w) z ∙ itself w), (λ q. absurd (q refl)))
+distinct_words (x ∷ xs) d zero zero w h e = let z : x ≡ w = cc in ((λ q. ap (bytes_eq w) z ∙ word_itself w), (λ q. absurd (q refl)))
 distinct_words (x ∷ xs) d zero (suc v) w h e =
     let z : x ≡ w = cc in ((λ q. absurd (omega arith)), (λ q. ap (λ y. bytes_eq y (get_or xs v [])) (sym z) ∙ all_at (λ y. bytes_eq x y ≡ false) xs d.0 v (omega arith)))
 distinct_words (x ∷ xs) d (suc n) zero w h e = ((λ q. absurd (omega arith)), (λ q. turned w x ∙ all_got (λ y. bytes_eq x y ≡ false) xs d.0 n w e))
@@ -367,11 +329,11 @@ number_held vs d v h (n ∷ ns) = go (slice_get vs n) refl (nat_eq n v) refl (nu
   where
     go : (o : Option (List ℕ)) → slice_get vs n ≡ o → (b : Bool) → nat_eq n v ≡ b → list_any (λ k. nat_eq k v) ns ≡ has_word (words_of vs ns) (get_or vs v []) →
         (b || list_any (λ k. nat_eq k v) ns) ≡ has_word (if_some o ++ words_of vs ns) (get_or vs v [])
-    go None e true q i = let l = past_get vs n e in let s = same_number n v q in absurd (omega arith)
+    go None e true q i = let l = past_get vs n e in let s = number_same n v q in absurd (omega arith)
     go None e false q i = i
-    go (Some w) e true q i = sym (ap (λ b. b || has_word (words_of vs ns) (get_or vs v [])) ((distinct_words vs d n v w h e).0 (sym (same_number n v q))))
+    go (Some w) e true q i = sym (ap (λ b. b || has_word (words_of vs ns) (get_or vs v [])) ((distinct_words vs d n v w h e).0 (sym (number_same n v q))))
     go (Some w) e false q i =
-        let f : n ≡ v → ⊥ = λ k. (let z : false ≡ true = sym q ∙ ap (λ m. nat_eq m v) k ∙ itself_number v in cc) in
+        let f : n ≡ v → ⊥ = λ k. (let z : false ≡ true = sym q ∙ ap (λ m. nat_eq m v) k ∙ same_eq v in cc) in
         i ∙ sym (ap (λ b. b || has_word (words_of vs ns) (get_or vs v [])) ((distinct_words vs d n v w h e).1 f))
 
 pub numbers_push : (ls : List Numbers) (l : Numbers) → numbers_in (ls ++ l ∷ []) ≡ numbers_in ls ++ l.list.items ∷ []

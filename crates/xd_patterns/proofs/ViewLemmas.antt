@@ -2,6 +2,7 @@
 use Rattle.std.proofs.Common.{◌≡◌, ℕ, zero, suc, ◌+◌, ◌-◌, ◌<◌, ◌≤◌, nat_eq, arith, Bool, true, false, cond, List, [], ◌∷◌, map, length, get_or, drop, take, refl, ap, sym, subst, ◌∙◌}
 use Rattle.std.proofs.lemmas.Bool.Decides.{nat_tests}
 use Rattle.std.specs.List.{AllByRecursion}
+use Rattle.xd_doc.proofs.Lists.{all_below}
 use Rattle.xd_syntax.specs.Tree.{Tree, Seq, Alt, seq_of}
 use Rattle.xd_syntax.specs.TreeForms.{alt_of}
 use Rattle.xd_base.specs.declared.Place.{Place}
@@ -45,10 +46,6 @@ get_below : (m : ℕ) (is : List ℕ) (i d : ℕ) → AllByRecursion (λ j. j < 
 get_below m [] i d a h = absurd (omega arith)
 get_below m (j ∷ is) zero d a h = a.0
 get_below m (j ∷ is) (suc i) d a h = get_below m is i d a.1 (omega arith)
-
-pub all_below : (m n : ℕ) → m ≤ n → (is : List ℕ) → AllByRecursion (λ j. j < m) is → AllByRecursion (λ j. j < n) is
-all_below m n h [] a = tt
-all_below m n h (j ∷ is) a = (omega (arith, a.0), all_below m n h is a.1)
 
 -- The form is a row of these parts: a sequence or an alternative.
 pub record IsRow (f : Form) (is : List ℕ) (F : List Tree → Tree) (G : Tree → Tree → Tree) : Type 0 where

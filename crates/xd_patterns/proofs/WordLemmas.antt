@@ -1,17 +1,10 @@
 -- The words of lists of numbers.
-use Rattle.std.proofs.Common.{◌≡◌, ℕ, zero, suc, ◌<◌, ◌||◌, arith, Bool, true, false, List, [], ◌∷◌, ◌++◌, length, get_or, Option, Some, None, refl, ap, ◌∙◌}
+use Rattle.std.proofs.Common.{◌≡◌, ℕ, zero, suc, ◌<◌, ◌||◌, arith, true, List, [], ◌∷◌, ◌++◌, length, get_or, Option, Some, None, refl, ap, ◌∙◌}
 use Rattle.std.specs.List.{slice_get}
 use Rattle.std.specs.Str.{bytes_eq}
+use Rattle.xd_doc.proofs.Bools.{or_assoc, or_true}
 use Rattle.xd_syntax.specs.Words.{has_word}
 use Rattle.xd_patterns.specs.Variables.{if_some, words_of}
-
-or_assoc : (a b c : Bool) → (a || (b || c)) ≡ ((a || b) || c)
-or_assoc true b c = refl
-or_assoc false b c = refl
-
-or_true : (b : Bool) → (b || true) ≡ true
-or_true true = refl
-or_true false = refl
 
 pub words_split : (vs : List (List ℕ)) (ns ms : List ℕ) (x : List ℕ) → has_word (words_of vs (ns ++ ms)) x ≡ (has_word (words_of vs ns) x || has_word (words_of vs ms) x)
 words_split vs [] ms x = refl

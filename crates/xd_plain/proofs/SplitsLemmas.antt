@@ -5,6 +5,7 @@ use Rattle.xd_doc.specs.Document.{Document, empty, text, element, join, size, ha
 use Rattle.xd_syntax.specs.Tree.{Tree, Empty, Text, Words, Name, Elem, Seq, Alt, Star, Plus, Opt, Val, Definitions, body}
 use Rattle.xd_syntax.specs.Fits.{Split}
 use Rattle.xd_meaning.specs.FitsWithin.{FitsWithin, Repeats, no_turn, one_turn}
+use Rattle.xd_laws.proofs.Unfoldings.{size_join}
 use Rattle.xd_plain.specs.PlainDocuments.{document_of}
 use Rattle.xd_plain.specs.PlainFits.{splits, splits_of, behind_text, behind_element}
 use Rattle.xd_plain.specs.declared.fits.Split.{Split as Halves}
@@ -110,15 +111,10 @@ halves_joined d xs i x k h e =
     let s = found (λ a. a ≡ document_of x.front) (λ b. b ≡ document_of x.back) d xs i x k h e refl refl in
     ap (λ b. join (document_of x.front) b) (sym s.4) ∙ ap (λ a. join a s.1) (sym s.3) ∙ s.2
 
-size-join : (a b : Document) → size (join a b) ≡ size a + size b
-size-join empty b = omega arith
-size-join (text s a) b = let i = size-join a b in omega arith
-size-join (element l c a) b = let i = size-join a b in omega arith
-
 pub sizes : (d : Document) (xs : List Halves) (i : ℕ) (x : Halves) → splits_of xs ≡ splits d → i < length xs → x ≡ get_or xs i x →
     size (document_of x.front) + size (document_of x.back) ≡ size d
 sizes d xs i x k h e =
-    sym (size-join (document_of x.front) (document_of x.back)) ∙ ap size (halves_joined d xs i x k h e)
+    sym (size_join (document_of x.front) (document_of x.back)) ∙ ap size (halves_joined d xs i x k h e)
 
 pub size_some : (d : Document) → has_item d ≡ true → 1 ≤ size d
 size_some empty h = cc

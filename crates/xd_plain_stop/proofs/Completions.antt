@@ -3,10 +3,10 @@ use Rattle.std.proofs.Common.{◌≡◌, ◌↔◌, ◌⊎◌, inl, inr, ⊎_eli
 use Rattle.xd_doc.specs.Document.{Document, empty, text, element, join, size, has_item}
 use Rattle.xd_doc.specs.Classes.{LabelClass, TextClass, class_has}
 use Rattle.xd_doc.specs.ClassForms.{HasLabel, HasText}
+use Rattle.xd_doc.proofs.Joins.{join_empty-right, join_assoc}
 use Rattle.xd_syntax.specs.Fits.{Split}
 use Rattle.xd_syntax.specs.Tree.{Tree, Definitions}
 use Rattle.xd_meaning.specs.FitsWithin.{FitsWithin, Repeats, no_turn, one_turn, IsOneText, IsOneOf, IsOneElement}
-use Rattle.xd_laws.proofs.Documents.{join_empty-right, join_assoc}
 use Rattle.xd_plain.specs.PlainDocuments.{document_of}
 use Rattle.xd_plain.proofs.SplitsLemmas.{Turn}
 use Rattle.xd_plain_stop.specs.Tails.{GoesByFirst, HasCompletion, HasSome, IsOpen, IsTail, goes_on, takes_item}

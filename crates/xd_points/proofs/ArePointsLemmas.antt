@@ -6,7 +6,7 @@ use Rattle.xd_auto.specs.declared.auto.State.{State}
 use Rattle.xd_auto.specs.Automaton.{Automaton, StateMoves, no_moves, moves_at}
 use Rattle.xd_points.specs.declared.patterns.PatternStates.{PatternStates}
 use Rattle.xd_points.specs.Meaning.{IsPointOf, PointView, point}
-use Rattle.xd_boole.proofs.ArePointsLemmas.{at_end, at_front, place_cases}
+use Rattle.xd_boole.proofs.ArePointsLemmas.{at_end, at_front, place_cases, map_number}
 use Rattle.xd_points.specs.declared.points.Points.{Points}
 use Rattle.xd_points.specs.Points.{ArePoints, Grows, IsStateFor, found_at, no_point, point_at, point_key, state_at, point_last}
 
@@ -68,16 +68,6 @@ module _ (a : Automaton) (b : PatternStates) (old new : Points) (left pattern : 
       last = point_lasts;
       only = only_found;
     }
-
-map_number : (xs ys : List State) → map (λ (s : State). s.number) xs ≡ map (λ (s : State). s.number) ys → xs ≡ ys
-map_number [] [] e = refl
-map_number [] (y ∷ ys) e = absurd (cc)
-map_number (x ∷ xs) [] e = absurd (cc)
-map_number (x ∷ xs) (y ∷ ys) e =
-    let first : x.number ≡ y.number = cc in
-    let more : map (λ (s : State). s.number) xs ≡ map (λ (s : State). s.number) ys = cc in
-    let same : x ≡ y = ap (λ n. record { number = n }) first in
-    ap (λ z. z ∷ xs) same ∙ ap (λ zs. y ∷ zs) (map_number xs ys more)
 
 same_point : (p q : PointView) → point_key p ≡ point_key q → p ≡ q
 same_point p q e =

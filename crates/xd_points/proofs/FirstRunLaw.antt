@@ -4,15 +4,15 @@ use Rattle.std.proofs.Common.{ℕ, zero, suc, ◌≡◌, Bool, true, false, ◌&
 use Rattle.std.specs.List.{Contains, flat_map, list_any, slice_get}
 use Rattle.xd_doc.specs.Document.{Document, empty, text, element}
 use Rattle.xd_doc.specs.Classes.{class_has}
+use Rattle.xd_doc.proofs.Bools.{and_left, and_right, or_left, or_right}
 use Rattle.xd_auto.specs.declared.auto.State.{State}
 use Rattle.xd_auto.specs.declared.auto.LabelMove.{LabelMove}
 use Rattle.xd_auto.specs.declared.auto.TextMove.{TextMove}
 use Rattle.xd_auto.specs.Automaton.{Automaton, accepts, moves_at, takes_word, takes_element as takes_over}
 use Rattle.xd_auto.specs.Runs.{Run, ends, takes_text, takes_element, IsAcceptingRun, from_each, runs}
-use Rattle.xd_auto.proofs.Anys.{IsSomeAnd-at, IsSomeAnd-parts, and_left, and_right}
+use Rattle.xd_auto.proofs.Anys.{IsSomeAnd-at, IsSomeAnd-parts}
 use Rattle.xd_auto.proofs.Members.{first_in}
 use Rattle.xd_auto.proofs.RunLaw.{runs_are_accepting, runs_law}
-use Rattle.xd_boole.proofs.Bools.{or_left, or_right}
 use Rattle.xd_points.specs.FirstRuns.{AcceptingRunsAreAll, AcceptsByEachKind, FirstRunsArePreferred, IsFirstRun, IsPreferred, IsRunBy, place_before}
 
 -- ---- heads of lists

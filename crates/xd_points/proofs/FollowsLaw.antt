@@ -3,23 +3,24 @@ use Rattle.std.proofs.Common.{ℕ, zero, suc, ◌<◌, ◌≡◌, inl, inr, Bool
 use Rattle.std.specs.List.{AllZip, list_any, slice_get}
 use Rattle.std.specs.Option.{IsSomeAnd}
 use Rattle.std.proofs.lemmas.Bool.Decides.{nat_tests}
+use Rattle.std.proofs.lemmas.Bool.{and_from}
 use Rattle.xd_doc.specs.Document.{Document, empty, text, element}
 use Rattle.xd_doc.specs.Classes.{class_has}
+use Rattle.xd_doc.proofs.Bools.{and_left, and_right, or_left, or_right, or_true, not_true}
 use Rattle.xd_auto.specs.declared.auto.State.{State}
 use Rattle.xd_auto.specs.declared.auto.LabelMove.{LabelMove}
 use Rattle.xd_auto.specs.declared.auto.TextMove.{TextMove}
 use Rattle.xd_auto.specs.Automaton.{Automaton, accepts, moves_at}
 use Rattle.xd_auto.specs.Runs.{Run, ends, takes_text, takes_element}
+use Rattle.xd_boole.proofs.MatchLemmas.{passes_any}
 use Rattle.xd_points.specs.FirstRuns.{IsRunBy, place_before}
 use Rattle.xd_points.specs.declared.patterns.PatternStates.{PatternStates}
 use Rattle.xd_boole.specs.Groups.{passes_at}
 use Rattle.xd_boole.specs.Meaning.{ElementFirst, TextFirst, any_accepts, element_of, move_takes, text_of, text_takes}
-use Rattle.xd_boole.proofs.Bools.{and_both, and_left, and_right, or_right, or_true}
 use Rattle.xd_points.specs.declared.points.Points.{Points}
 use Rattle.xd_points.specs.Following.{Follows, FollowsAllRuns, IsRunAt}
 use Rattle.xd_points.specs.Points.{AreExpanded, HasMoves, IsLabelStep, IsTextStep, RowView, any_for, is_old, label_means, meaning, point_at, row_at, state_at, text_means}
 use Rattle.xd_points.proofs.FirstRunLaw.{by_accepts}
-use Rattle.xd_points.proofs.StandForMovesLemmas.{not_true, or_left, some_passes}
 
 pub zip_there : {A : Type 0} (R : A → ℕ → Type 0) (xs : List A) (ys : List ℕ) (k n : ℕ) (x : A) → AllZip R xs ys → slice_get xs k ≡ Some x → slice_get ys k ≡ Some n → R x n
 zip_there R [] ys k n x h e f = absurd (cc)
@@ -94,7 +95,7 @@ module _ (first : Bool) (a : Automaton) (t : PatternStates) (p : Points) (rows :
       let v = point_at p.points.items i in
       let step = zip_there (IsTextStep t.auto v.pattern p) (moves_at p.made (state_at i)).texts (row_at rows i).texts h.1 n m moves.texts.steps h.3 h.4 in
       let after = to d m.rest.number r step.leads.0.within h.6 in
-      let passes = and_both (class_has m.words c) (meaning a t p m.rest.number d) h.5 after.0 in
+      let passes = and_from (class_has m.words c) (meaning a t p m.rest.number d) h.5 after.0 in
       let yes = sym (moves.texts.taken n q) ∙ for_there (text_means a t p q) n (moves_at p.made (state_at i)).texts (row_at rows i).texts h.1 m h.3 h.4 passes in
       let xs = (moves_at t.auto v.pattern).texts in
       let there = passes_at (text_takes t.auto q) xs n in
@@ -105,8 +106,8 @@ module _ (first : Bool) (a : Automaton) (t : PatternStates) (p : Points) (rows :
       let neither = not_true (right || before) (and_right there (not (right || before)) more) in
       let none = or_left right before neither in
       let one = sym (passes_there (text_takes t.auto q) xs n step.origin step.there) ∙ takes in (
-        and_both (accepts a (text_of q) v.left) (accepts t.auto (text_of q) v.pattern && not right) (and_left (accepts a (text_of q) v.left) (there && not (right || before)) yes)
-            (and_both (accepts t.auto (text_of q) v.pattern) (not right) (some_passes (text_takes t.auto q) xs n takes) (ap not none)),
+        and_from (accepts a (text_of q) v.left) (accepts t.auto (text_of q) v.pattern && not right) (and_left (accepts a (text_of q) v.left) (there && not (right || before)) yes)
+            (and_from (accepts t.auto (text_of q) v.pattern) (not right) (passes_any (text_takes t.auto q) xs n takes) (ap not none)),
         subst (λ (o : Option TextMove). IsSomeAnd o (λ w. (class_has w.words c ≡ true) × (before ≡ false) × IsRunBy first t.auto d w.rest r)) (sym step.there)
             (and_left (class_has step.origin.words c) (accepts t.auto d step.origin.rest) one, or_right right before neither, subst (λ (s : State). IsRunBy first t.auto d s r) step.leads.0.pattern_is after.1),
       )
@@ -121,7 +122,7 @@ module _ (first : Bool) (a : Automaton) (t : PatternStates) (p : Points) (rows :
       let step = zip_there (IsLabelStep t.auto v.pattern p) (moves_at p.made (state_at i)).labels (row_at rows i).labels h.1 n m moves.labels.steps h.3 h.4 in
       let inside = to c m.content.number k step.leads.0.within h.6 in
       let after = to d m.rest.number r step.leads.1.0.within h.7 in
-      let passes = and_both (class_has m.class l) (meaning a t p m.content.number c && meaning a t p m.rest.number d) h.5 (and_both (meaning a t p m.content.number c) (meaning a t p m.rest.number d) inside.0 after.0) in
+      let passes = and_from (class_has m.class l) (meaning a t p m.content.number c && meaning a t p m.rest.number d) h.5 (and_from (meaning a t p m.content.number c) (meaning a t p m.rest.number d) inside.0 after.0) in
       let yes = sym (moves.labels.taken n q) ∙ for_there (label_means a t p q) n (moves_at p.made (state_at i)).labels (row_at rows i).labels h.1 m h.3 h.4 passes in
       let xs = (moves_at t.auto v.pattern).labels in
       let there = passes_at (move_takes t.auto q) xs n in
@@ -132,8 +133,8 @@ module _ (first : Bool) (a : Automaton) (t : PatternStates) (p : Points) (rows :
       let neither = not_true (right || before) (and_right there (not (right || before)) more) in
       let none = or_left right before neither in
       let one = sym (passes_there (move_takes t.auto q) xs n step.origin step.there) ∙ takes in (
-        and_both (accepts a (element_of q) v.left) (accepts t.auto (element_of q) v.pattern && not right) (and_left (accepts a (element_of q) v.left) (there && not (right || before)) yes)
-            (and_both (accepts t.auto (element_of q) v.pattern) (not right) (some_passes (move_takes t.auto q) xs n takes) (ap not none)),
+        and_from (accepts a (element_of q) v.left) (accepts t.auto (element_of q) v.pattern && not right) (and_left (accepts a (element_of q) v.left) (there && not (right || before)) yes)
+            (and_from (accepts t.auto (element_of q) v.pattern) (not right) (passes_any (move_takes t.auto q) xs n takes) (ap not none)),
         subst (λ (o : Option LabelMove). IsSomeAnd o (λ w. (class_has w.class l ≡ true) × (before ≡ false) × IsRunBy first t.auto c w.content k × IsRunBy first t.auto d w.rest r)) (sym step.there) (
           and_left (class_has step.origin.class l) (accepts t.auto c step.origin.content && accepts t.auto d step.origin.rest) one,
           or_right right before neither,
@@ -161,10 +162,10 @@ module _ (first : Bool) (a : Automaton) (t : PatternStates) (p : Points) (rows :
           let right = any_accepts t.taken.auto v.rights (text_of q) in
           let before = list_any (text_takes t.auto q) (take (place_before first n) xs) in
           let from = origin (slice_get xs n) (λ w. (class_has w.words c ≡ true) × (before ≡ false) × IsRunBy first t.auto d w.rest r) h.1 in
-          let takes = passes_there (text_takes t.auto q) xs n from.item from.is ∙ and_both (class_has from.item.words c) (accepts t.auto d from.item.rest) from.holds.0 (by_accepts first t.auto d from.item.rest r from.holds.2) in
+          let takes = passes_there (text_takes t.auto q) xs n from.item from.is ∙ and_from (class_has from.item.words c) (accepts t.auto d from.item.rest) from.holds.0 (by_accepts first t.auto d from.item.rest r from.holds.2) in
           let left = and_left (accepts a (text_of q) v.left) (accepts t.auto (text_of q) v.pattern && not right) h.0 in
           let none = not_true right (and_right (accepts t.auto (text_of q) v.pattern) (not right) (and_right (accepts a (text_of q) v.left) (accepts t.auto (text_of q) v.pattern && not right) h.0)) in
-          let yes = moves.texts.taken n q ∙ and_both (accepts a (text_of q) v.left) (passes_at (text_takes t.auto q) xs n && not (right || before)) left (and_both (passes_at (text_takes t.auto q) xs n) (not (right || before)) takes (or_none right before none from.holds.1)) in
+          let yes = moves.texts.taken n q ∙ and_from (accepts a (text_of q) v.left) (passes_at (text_takes t.auto q) xs n && not (right || before)) left (and_from (passes_at (text_takes t.auto q) xs n) (not (right || before)) takes (or_none right before none from.holds.1)) in
           let f = found (text_means a t p q) n (moves_at p.made (state_at i)).texts (row_at rows i).texts yes in
           let step = zip_there (IsTextStep t.auto v.pattern p) (moves_at p.made (state_at i)).texts (row_at rows i).texts f.place n f.item moves.texts.steps f.there f.number in
           let same = some_same (slice_get xs n) from.item step.origin from.is step.there in
@@ -194,11 +195,11 @@ module _ (first : Bool) (a : Automaton) (t : PatternStates) (p : Points) (rows :
           let before = list_any (move_takes t.auto q) (take (place_before first n) xs) in
           let from = origin (slice_get xs n) (λ w. (class_has w.class l ≡ true) × (before ≡ false) × IsRunBy first t.auto c w.content k × IsRunBy first t.auto d w.rest r) h.1 in
           let takes = passes_there (move_takes t.auto q) xs n from.item from.is
-          ∙ and_both (class_has from.item.class l) (accepts t.auto c from.item.content && accepts t.auto d from.item.rest) from.holds.0
-          (and_both (accepts t.auto c from.item.content) (accepts t.auto d from.item.rest) (by_accepts first t.auto c from.item.content k from.holds.2) (by_accepts first t.auto d from.item.rest r from.holds.3)) in
+          ∙ and_from (class_has from.item.class l) (accepts t.auto c from.item.content && accepts t.auto d from.item.rest) from.holds.0
+          (and_from (accepts t.auto c from.item.content) (accepts t.auto d from.item.rest) (by_accepts first t.auto c from.item.content k from.holds.2) (by_accepts first t.auto d from.item.rest r from.holds.3)) in
           let left = and_left (accepts a (element_of q) v.left) (accepts t.auto (element_of q) v.pattern && not right) h.0 in
           let none = not_true right (and_right (accepts t.auto (element_of q) v.pattern) (not right) (and_right (accepts a (element_of q) v.left) (accepts t.auto (element_of q) v.pattern && not right) h.0)) in
-          let yes = moves.labels.taken n q ∙ and_both (accepts a (element_of q) v.left) (passes_at (move_takes t.auto q) xs n && not (right || before)) left (and_both (passes_at (move_takes t.auto q) xs n) (not (right || before)) takes (or_none right before none from.holds.1)) in
+          let yes = moves.labels.taken n q ∙ and_from (accepts a (element_of q) v.left) (passes_at (move_takes t.auto q) xs n && not (right || before)) left (and_from (passes_at (move_takes t.auto q) xs n) (not (right || before)) takes (or_none right before none from.holds.1)) in
           let f = found (label_means a t p q) n (moves_at p.made (state_at i)).labels (row_at rows i).labels yes in
           let step = zip_there (IsLabelStep t.auto v.pattern p) (moves_at p.made (state_at i)).labels (row_at rows i).labels f.place n f.item moves.labels.steps f.there f.number in
           let same = some_same (slice_get xs n) from.item step.origin from.is step.there in

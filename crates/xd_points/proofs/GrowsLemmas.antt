@@ -5,6 +5,9 @@ use Rattle.std.proofs.lemmas.Bool.{cases_lt}
 use Rattle.std.proofs.lemmas.List.Folds.{list_any-append}
 use Rattle.xd_doc.specs.Document.{Document}
 use Rattle.xd_doc.specs.Classes.{class_has}
+use Rattle.xd_doc.proofs.SortedNames.{or_false}
+use Rattle.xd_doc.proofs.Bools.{or_join}
+use Rattle.xd_doc.proofs.Lists.{all_push, all_more}
 use Rattle.xd_auto.specs.declared.auto.State.{State}
 use Rattle.xd_auto.specs.declared.auto.LabelMove.{LabelMove}
 use Rattle.xd_auto.specs.declared.auto.TextMove.{TextMove}
@@ -15,9 +18,7 @@ use Rattle.xd_boole.specs.Meaning.{ElementFirst, TextFirst}
 use Rattle.xd_points.specs.Meaning.{PointView, means}
 use Rattle.xd_boole.proofs.GrowsLemmas.{any_agree}
 use Rattle.xd_points.specs.Points.{AddsMoves, ArePoints, Grows, IsBare, KeepsPoints, LeadsTo, StandsFor, label_means, label_states, meaning, text_means, text_states}
-use Rattle.xd_boole.proofs.Lists.{all_push, all_map}
 use Rattle.xd_points.proofs.ArePointsLemmas.{grows_same}
-use Rattle.xd_boole.proofs.Bools.{or_nothing, or_join}
 
 pub grows_trans : (p q r : Points) → Grows p q → Grows q r → Grows p r
 grows_trans p q r one two = record {
@@ -88,7 +89,7 @@ module _ {M Q : Type 0} {Leads : Points → M → Type 0} {by_move : Points → 
     whole = whole;
     grows = grows_same p;
     leads = below;
-    taken = λ q. sym (or_nothing (list_any (by_move p q) ms)) ∙ ap (λ w. list_any (by_move p q) ms || w) (sym (none q));
+    taken = λ q. sym (or_false (list_any (by_move p q) ms)) ∙ ap (λ w. list_any (by_move p q) ms || w) (sym (none q));
   }
 
   pub adds_like : {old new : Points} {before after : List M} {f g : Q → Bool} → AddsMoves Leads by_move a b old new before after f → ((q : Q) → f q ≡ g q) → AddsMoves Leads by_move a b old new before after g
@@ -117,9 +118,9 @@ module _ {M Q : Type 0} (patterns : List State) (states : M → List State) (by_
     grows = grows;
     leads = subst (AllByRecursion (λ w. AllZip (LeadsTo r) patterns (states w))) (sym is)
         (all_push (λ w. AllZip (LeadsTo r) patterns (states w)) ms m
-        (all_map (λ w. AllZip (LeadsTo p) patterns (states w)) (λ w. AllZip (LeadsTo r) patterns (states w)) ms (λ w. all_lead p r (keeps p r grows) patterns (states w)) below) there);
+        (all_more (λ w. AllZip (LeadsTo p) patterns (states w)) (λ w. AllZip (LeadsTo r) patterns (states w)) ms (λ w. all_lead p r (keeps p r grows) patterns (states w)) below) there);
     taken = λ q.
         ap (list_any (by_move r q)) is ∙ list_any-append (by_move r q) ms (m ∷ [])
         ∙ ap (λ w. w || (by_move r q m || false)) (any_agree (λ w. AllZip (LeadsTo p) patterns (states w)) (by_move r q) (by_move p q) ms below (stays patterns p r (keeps p r grows) q))
-        ∙ ap (λ w. list_any (by_move p q) ms || w) (or_nothing (by_move r q m) ∙ means_so q);
+        ∙ ap (λ w. list_any (by_move p q) ms || w) (or_false (by_move r q m) ∙ means_so q);
   }

@@ -11,4 +11,4 @@ pub mod TableLemmas
 mod PatternMoveLemmas
 pub mod FirstRunLaw
 pub mod FollowsLaw
-mod OperationLemmas
+pub mod OperationLemmas

@@ -2,10 +2,12 @@
 -- accept what the points say.
 use Rattle.std.proofs.Common.{ℕ, ◌<◌, ◌≤◌, ◌≡◌, inl, inr, nat_lt, Bool, true, false, ◌&&◌, ◌||◌, nat_eq, List, [], ◌∷◌, length, Option, Some, None, refl, sym, ap, ◌∙◌, arith}
 use Rattle.std.specs.List.{AllByRecursion, list_any}
-use Rattle.std.proofs.lemmas.Bool.{cases_lt}
+use Rattle.std.proofs.lemmas.Bool.{cases_lt, and_from}
 use Rattle.std.proofs.lemmas.Bool.Decides.{nat_tests}
 use Rattle.xd_doc.specs.Document.{Document, empty, text, element}
 use Rattle.xd_doc.specs.Classes.{LabelClass, TextClass, class_has}
+use Rattle.xd_doc.proofs.Bools.{and_left, and_right, and_false, or_true}
+use Rattle.xd_doc.proofs.Numbers.{same_number}
 use Rattle.xd_auto.specs.declared.auto.State.{State}
 use Rattle.xd_auto.specs.declared.auto.LabelMove.{LabelMove}
 use Rattle.xd_auto.specs.declared.auto.TextMove.{TextMove}
@@ -24,10 +26,8 @@ use Rattle.xd_points.specs.Placing.{IsPlaceOf, IsPlaced, accepts_at, passes_ther
 use Rattle.xd_boole.specs.Points.{MoveBelow, TextBelow}
 use Rattle.xd_points.specs.Points.{AllExpanded, HasMoves, IsLabelStep, IsTextStep, is_old, label_means, meaning, point_at, row_at, state_at, text_means}
 use Rattle.xd_points.proofs.StandForMovesLemmas.{together}
-use Rattle.xd_boole.proofs.Bools.{and_both, and_false, and_left, and_right, or_true}
 use Rattle.xd_boole.proofs.GrowsLemmas.{any_agree}
 use Rattle.xd_boole.proofs.MoveBelowLemmas.{labels_below, texts_below}
-use Rattle.xd_boole.proofs.AnyAcceptsLemmas.{same_number}
 
 -- a point that means what its left accepts
 pub old_means : (a : Automaton) (b : PatternStates) → ServePoints a b → (q : PointView) (d : Document) → is_old_point b q ≡ true → accepts a d q.left ≡ means a b q d
@@ -122,7 +122,7 @@ module _ (a : Automaton) (b : PatternStates) (p : Points) (all : AllExpanded a b
           let e = rest m.one.rest.number m.holds (and_right (class_has m.one.words t) (meaning a b p m.one.rest.number d) m.passes) in
           record {
             document = text t e.document;
-            accepted = m.others (λ (w : TextMove). class_has w.words t && accepts p.made e.document w.rest) (and_both (class_has m.one.words t) (accepts p.made e.document m.one.rest) here e.accepted);
+            accepted = m.others (λ (w : TextMove). class_has w.words t && accepts p.made e.document w.rest) (and_from (class_has m.one.words t) (accepts p.made e.document m.one.rest) here e.accepted);
           }
   some_document (element l c d) i lt means_so = go (is_old b p i) refl (λ j there e. some_document c j there e) (λ j there e. some_document d j there e)
     where
@@ -140,8 +140,8 @@ module _ (a : Automaton) (b : PatternStates) (p : Points) (all : AllExpanded a b
           record {
             document = element l e.document f.document;
             accepted = m.others (λ (w : LabelMove). class_has w.class l && (accepts p.made e.document w.content && accepts p.made f.document w.rest))
-                (and_both (class_has m.one.class l) (accepts p.made e.document m.one.content && accepts p.made f.document m.one.rest) here
-                (and_both (accepts p.made e.document m.one.content) (accepts p.made f.document m.one.rest) e.accepted f.accepted));
+                (and_from (class_has m.one.class l) (accepts p.made e.document m.one.content && accepts p.made f.document m.one.rest) here
+                (and_from (accepts p.made e.document m.one.content) (accepts p.made f.document m.one.rest) e.accepted f.accepted));
           }
 
   -- so a point whose state accepts nothing accepts nothing

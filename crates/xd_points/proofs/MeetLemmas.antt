@@ -3,6 +3,7 @@ use Rattle.std.proofs.Common.{◌≡◌, ◌<◌, nat_lt, Bool, true, false, not
 use Rattle.std.proofs.lemmas.Bool.Decides.{nat_tests}
 use Rattle.std.specs.List.{AllByRecursion}
 use Rattle.xd_doc.specs.Classes.{LabelClass, TextClass, class_has}
+use Rattle.xd_doc.proofs.Bools.{and_left, and_right, and_false, and_false_within, and_join}
 use Rattle.xd_auto.specs.declared.auto.State.{State}
 use Rattle.xd_auto.specs.declared.auto.LabelMove.{LabelMove}
 use Rattle.xd_auto.specs.declared.auto.TextMove.{TextMove}
@@ -14,7 +15,7 @@ use Rattle.xd_doc.specs.Document.{Document}
 use Rattle.xd_boole.specs.Meaning.{TextFirst, any_accepts, has_state}
 use Rattle.xd_boole.specs.Groups.{group_refuses}
 use Rattle.xd_boole.specs.Choices.{choice_refuses}
-use Rattle.xd_boole.proofs.Bools.{and_false, and_left, and_right, part_chosen, part_group}
+use Rattle.xd_boole.proofs.Bools.{part_chosen, part_group}
 use Rattle.xd_points.specs.declared.moves.Parts.{Parts}
 use Rattle.xd_points.specs.declared.moves.Rests.{Rests}
 use Rattle.xd_points.specs.declared.points.Points.{Points}
@@ -29,10 +30,6 @@ chosen false lc lr pc pr u v = refl
 chosen true false lr pc pr u v = refl
 chosen true true false pc pr u v = and_false (pc && not u)
 chosen true true true pc pr u v = part_chosen true pc pr u v
-
-pub and_join : (x y z : Bool) → (x && (y && z)) ≡ ((x && y) && z)
-and_join true y z = refl
-and_join false y z = refl
 
 -- the move by which two parts go on as a choice says
 pub move_added : (a : Automaton) (b : PatternStates) (p q r : Points) (ms after : List LabelMove) (parts : Parts) (choice : SideChoice) (class : LabelClass) (content rest : State)
@@ -78,10 +75,6 @@ nothing_left a b serve s rights d has = go (any_accepts b.taken.auto rights d) r
     go true e = and_false (accepts b.auto d s)
     go false e = ap (λ w. w && true) (sym (serve.same d s) ∙ has_refuses b.taken.auto s rights d has e)
 
-none_both : (x y z : Bool) → (x && z) ≡ false → (x && (y && z)) ≡ false
-none_both false y z e = refl
-none_both true y z e = ap (λ w. y && w) e ∙ and_false y
-
 -- nothing is left of a point where its pattern's state must refuse, or its left
 pub nothing_meant : (a : Automaton) (b : PatternStates) → ServePoints a b → (p : PointView) (d : Document) → leaves_nothing b p ≡ true → means a b p d ≡ false
 nothing_meant a b serve p d e = go (has_state p.pattern p.rights) refl e
@@ -91,7 +84,7 @@ nothing_meant a b serve p d e = go (has_state p.pattern p.rights) refl e
     go false is h =
         let below : p.left.number < b.shared = let t = and_left (nat_lt p.left.number b.shared) (has_state p.left p.rights) h in grind (arith, nat_tests) in
         let none = not (any_accepts b.taken.auto p.rights d) in
-        none_both (accepts a d p.left) (accepts b.auto d p.pattern) none
+        and_false_within (accepts a d p.left) (accepts b.auto d p.pattern) none
         (ap (λ w. w && none) (serve.shared d p.left below) ∙ nothing_left a b serve p.left p.rights d (and_right (nat_lt p.left.number b.shared) (has_state p.left p.rights) h))
 
 -- no move is needed where nothing is left of a part

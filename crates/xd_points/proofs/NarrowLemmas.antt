@@ -2,10 +2,10 @@
 use Rattle.std.proofs.Common.{◌≡◌, ◌<◌, nat_lt, cond, Bool, true, false, not, ◌&&◌, ◌==◌, length, refl, ap, sym, ◌∙◌, arith}
 use Rattle.std.proofs.lemmas.Bool.Decides.{nat_tests}
 use Rattle.xd_doc.specs.Document.{Document}
+use Rattle.xd_doc.proofs.Bools.{and_left, and_right}
 use Rattle.xd_auto.specs.Automaton.{Automaton, IsState, accepts}
 use Rattle.xd_empty.specs.Parts.{is_marked}
 use Rattle.xd_boole.specs.Meaning.{any_accepts}
-use Rattle.xd_boole.proofs.Bools.{and_left, and_right}
 use Rattle.xd_points.specs.declared.patterns.PatternStates.{PatternStates}
 use Rattle.xd_points.specs.Meaning.{PointView, ServePoints, may_leave_out, means, point}
 use Rattle.xd_points.specs.Narrowing.{narrowed_left, narrows}

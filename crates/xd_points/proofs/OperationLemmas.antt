@@ -5,11 +5,11 @@ use Rattle.xd_doc.specs.Document.{Document, empty, text, element}
 use Rattle.xd_auto.specs.declared.auto.State.{State}
 use Rattle.xd_auto.specs.Automaton.{Automaton, StateMoves, accepts, moves_at, no_moves, takes_element, takes_word}
 
-newest : (a : Automaton) (m : StateMoves) → get_or (a ++ m ∷ []) (length a) (no_moves false) ≡ m
+pub newest : (a : Automaton) (m : StateMoves) → get_or (a ++ m ∷ []) (length a) (no_moves false) ≡ m
 newest [] m = refl
 newest (x ∷ a) m = newest a m
 
-accepts_nothing : (a : Automaton) (s : State) → moves_at a s ≡ no_moves false → (d : Document) → accepts a d s ≡ false
+pub accepts_nothing : (a : Automaton) (s : State) → moves_at a s ≡ no_moves false → (d : Document) → accepts a d s ≡ false
 accepts_nothing a s bare empty = ap (λ (m : StateMoves). m.last) bare
 accepts_nothing a s bare (text t d) = ap (λ (m : StateMoves). list_any (takes_word a t d) m.texts) bare
 accepts_nothing a s bare (element l c d) = ap (λ (m : StateMoves). list_any (takes_element a l c d) m.labels) bare

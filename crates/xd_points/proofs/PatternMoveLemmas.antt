@@ -27,12 +27,6 @@ module _ (a : Automaton) (b : PatternStates) (is : ServePoints a b) (s : State) 
   pub text_before_same : (q : TextFirst) → list_any (text_takes b.taken.auto q) (take n (moves_at b.taken.auto s).texts) ≡ list_any (text_takes b.auto q) (take n (moves_at b.auto s).texts)
   text_before_same q = any_take (text_takes b.taken.auto q) (text_takes b.auto q) (moves_at b.taken.auto s).texts (moves_at b.auto s).texts n (is.moves.texts q s)
 
--- what stands at one place is one
-pub one_at : {X : Type 0} (xs : List X) (i : ℕ) (x y : X) → i < length xs → x ≡ get_or xs i x → y ≡ get_or xs i y → x ≡ y
-one_at [] i x y lt e f = absurd (omega arith)
-one_at (z ∷ xs) zero x y lt e f = e ∙ sym f
-one_at (z ∷ xs) (suc i) x y lt e f = one_at xs i x y (omega arith) e f
-
 -- what stands at a place
 pub record PlaceOf {X : Type 0} (xs : List X) (i : ℕ) : Type 0 where
   pub item : X
@@ -43,11 +37,6 @@ pub place_of : {X : Type 0} (xs : List X) (i : ℕ) → i < length xs → PlaceO
 place_of [] i lt = absurd (omega arith)
 place_of (x ∷ xs) zero lt = record { item = x; at = refl; there = refl }
 place_of (x ∷ xs) (suc i) lt = let p = place_of xs i (omega arith) in record { item = p.item; at = p.at; there = p.there }
-
-pub passes_item : {X : Type 0} (t : X → Bool) (xs : List X) (k : ℕ) (x : X) → k < length xs → x ≡ get_or xs k x → passes_at t xs k ≡ t x
-passes_item t [] k x lt at = absurd (omega arith)
-passes_item t (y ∷ xs) zero x lt at = ap t (sym at)
-passes_item t (y ∷ xs) (suc k) x lt at = passes_item t xs k x (omega arith) at
 
 -- a move of a pattern's state, and the moves of the left that may share a name with it: these tell
 -- what all moves of the left do

@@ -17,12 +17,6 @@ use Rattle.xd_points.specs.Placing.{AreIn, ArePlaces, IsBareAt, IsPlaceOf, IsPla
 use Rattle.xd_points.specs.Points.{point_at, state_at}
 use Rattle.xd_boole.proofs.ArePointsLemmas.{at_end, at_front, place_cases}
 
-pub extends_trans : (a b c : Automaton) → Extends a b → Extends b c → Extends a c
-extends_trans a b c one two = record {
-  states = λ s here. two.states s (one.states s here);
-  moves = λ s here. two.moves s (one.states s here) ∙ one.moves s here;
-}
-
 -- a newer state changed
 pub extends_changed : (a b c : Automaton) (s : State) → Extends a b → length a ≤ s.number → ChangesOnly s b c → Extends a c
 extends_changed a b c s extends new changes = record {

@@ -4,23 +4,21 @@ use Rattle.std.specs.List.{All, AllByRecursion, AllZip, list_any, slice_get}
 use Rattle.std.specs.Cmp.{both_ways}
 use Rattle.std.proofs.lemmas.Bool.Decides.{nat_tests}
 use Rattle.std.proofs.lemmas.List.{take_all}
+use Rattle.xd_doc.proofs.SortedNames.{or_false}
+use Rattle.xd_doc.proofs.Bools.{and_left, and_right, or_join, and_false, or_left, or_true, not_true}
+use Rattle.xd_doc.proofs.Lists.{zip_both}
 use Rattle.xd_auto.specs.declared.auto.State.{State}
 use Rattle.xd_auto.specs.Automaton.{Automaton}
+use Rattle.xd_boole.proofs.MatchLemmas.{passes_any}
 use Rattle.xd_points.specs.declared.patterns.PatternStates.{PatternStates}
 use Rattle.xd_boole.specs.Groups.{passes_at}
-use Rattle.xd_boole.proofs.Bools.{and_false, and_left, and_over_right, and_right, or_join, or_nothing, or_true}
+use Rattle.xd_boole.proofs.Bools.{and_over_right}
 use Rattle.xd_points.specs.declared.points.Points.{Points}
 use Rattle.xd_points.specs.FirstRuns.{place_before}
 use Rattle.xd_points.specs.Points.{AddsMoves, IsStepOf, KeepsPoints, LeadsAs, LeadsTo, StandForMoves, any_for}
 use Rattle.xd_points.proofs.GrowsLemmas.{all_lead}
 
 -- ---- lists side by side
-
-pub zip_append : {A B : Type 0} (R : A → B → Type 0) (xs : List A) (ys : List B) (zs : List A) (ws : List B) → AllZip R xs ys → AllZip R zs ws → AllZip R (xs ++ zs) (ys ++ ws)
-zip_append R [] [] zs ws h k = k
-zip_append R [] (y ∷ ys) zs ws h k = absurd h
-zip_append R (x ∷ xs) [] zs ws h k = absurd h
-zip_append R (x ∷ xs) (y ∷ ys) zs ws h k = (h.0, zip_append R xs ys zs ws h.1 k)
 
 pub zip_map : {A B : Type 0} (R S : A → B → Type 0) (xs : List A) (ys : List B) → ((x : A) (y : B) → R x y → S x y) → AllZip R xs ys → AllZip S xs ys
 zip_map R S [] [] f h = tt
@@ -94,7 +92,7 @@ module _ {M Q : Type 0} {states : M → List State} {origins : List M} where
     stand_then {p} {q} {x} {y} {k} {j} {f} {g} {h} stay one two same =
         let first : StandForMoves states by_move origins q x k f = stand_more stay one in
         record {
-          steps = zip_append (IsStepOf states origins q) x k y j first.steps two.steps;
+          steps = zip_both (IsStepOf states origins q) x k y j first.steps two.steps;
           taken = λ n w.
               for_append (IsStepOf states origins q) (by_move q w) n x k y j first.steps
               ∙ ap (λ v. v || any_for (by_move q w) n y j) (first.taken n w) ∙ ap (λ v. f n w || v) (two.taken n w) ∙ same n w;
@@ -132,7 +130,7 @@ passes_more : {X : Type 0} (t : X → Bool) (xs : List X) (i n : ℕ) (x : X) �
 passes_more t [] i n x lt at = absurd (omega arith)
 passes_more t (y ∷ xs) zero zero x lt at = ap t (sym at)
 passes_more t (y ∷ xs) zero (suc n) x lt at = sym (ap (λ w. w && t x) (zero_suc n))
-passes_more t (y ∷ xs) (suc i) zero x lt at = sym (or_nothing (t y)) ∙ ap (λ w. t y || (w && t x)) (sym (suc_zero i))
+passes_more t (y ∷ xs) (suc i) zero x lt at = sym (or_false (t y)) ∙ ap (λ w. t y || (w && t x)) (sym (suc_zero i))
 passes_more t (y ∷ xs) (suc i) (suc n) x lt at = passes_more t xs i n x (omega arith) at ∙ ap (λ w. passes_at t (take i xs) n || (w && t x)) (sym (suc_suc i n))
 
 pub one_more : {X : Type 0} (t : X → Bool) (xs : List X) (i n : ℕ) (x : X) (l r : Bool) (before : ℕ → Bool) → i < length xs → x ≡ get_or xs i x
@@ -163,11 +161,6 @@ first_of t (x ∷ xs) e = go (t x) refl e (λ h. first_of t xs h)
     go true is h more = record { number = zero; passes = is; none = refl }
     go false is h more = let f = more h in record { number = suc f.number; passes = f.passes; none = ap (λ w. w || list_any t (take f.number xs)) is ∙ f.none }
 
-pub some_passes : {X : Type 0} (t : X → Bool) (xs : List X) (n : ℕ) → passes_at t xs n ≡ true → list_any t xs ≡ true
-some_passes t [] n e = absurd (cc)
-some_passes t (x ∷ xs) zero e = ap (λ w. w || list_any t xs) e
-some_passes t (x ∷ xs) (suc n) e = ap (λ w. t x || w) (some_passes t xs n e) ∙ or_true (t x)
-
 -- a move of some number passes, where any does
 record Numbered {A : Type 0} (p : A → Bool) (xs : List A) (ys : List ℕ) : Type 0 where
   number : ℕ
@@ -194,14 +187,6 @@ for_some p n (x ∷ xs) (y ∷ ys) e = go (nat_eq y n && p x) refl e (λ h. for_
     go true is k more = ap (λ w. w || list_any p xs) (and_right (nat_eq y n) (p x) is)
     go false is k more = ap (λ w. p x || w) (more k) ∙ or_true (p x)
 
-pub not_true : (b : Bool) → not b ≡ true → b ≡ false
-not_true true e = absurd (cc)
-not_true false e = refl
-
-pub or_left : (x y : Bool) → (x || y) ≡ false → x ≡ false
-or_left true y e = absurd (cc)
-or_left false y e = refl
-
 -- what a point's moves together take is what it means
 pub together : {A X : Type 0} (R : A → ℕ → Type 0) (f : A → Bool) (ms : List A) (ns : List ℕ) (t : X → Bool) (xs : List X) (first l r : Bool) → AllZip R ms ns
     → ((n : ℕ) → any_for f n ms ns ≡ (l && (passes_at t xs n && not (r || list_any t (take (place_before first n) xs))))) → list_any f ms ≡ (l && (list_any t xs && not r))
@@ -214,7 +199,7 @@ together R f ms ns t xs first l r zip each =
     let more : (passes_at t xs n.number && not (r || before)) ≡ true = and_right l (passes_at t xs n.number && not (r || before)) yes in
     let right : r ≡ false = or_left r before (not_true (r || before) (and_right (passes_at t xs n.number) (not (r || before)) more)) in
     ap (λ w. w && (list_any t xs && not r)) (and_left l (passes_at t xs n.number && not (r || before)) yes)
-    ∙ ap (λ w. w && not r) (some_passes t xs n.number (and_left (passes_at t xs n.number) (not (r || before)) more))
+    ∙ ap (λ w. w && not r) (passes_any t xs n.number (and_left (passes_at t xs n.number) (not (r || before)) more))
     ∙ ap not right)
     (λ e.
     let more : (list_any t xs && not r) ≡ true = and_right l (list_any t xs && not r) e in
@@ -230,10 +215,6 @@ together R f ms ns t xs first l r zip each =
     none : (b : Bool) (n : ℕ) → list_any t (take n xs) ≡ false → list_any t (take (place_before b n) xs) ≡ false
     none true n e = e
     none false n e = refl
-
--- no move yet, and all moves
-pub none_taken : (l : Bool) → (l && false) ≡ false
-none_taken l = and_false l
 
 pub passes_walked : {X : Type 0} (t : X → Bool) (xs : List X) (i n : ℕ) → length xs ≤ i → passes_at t (take i xs) n ≡ passes_at t xs n
 passes_walked {X} t xs i n le = ap (λ (ys : List X). passes_at t ys n) (take_all i xs le)

@@ -2,7 +2,6 @@
 use Rattle.std.proofs.Common.{ℕ, ◌<◌, ◌≤◌, ◌≡◌, Bool, not, ◌&&◌, ◌||◌, List, [], ◌∷◌, length, Option, Some, None, IfSome, refl, sym, ap, ◌∙◌, arith}
 use Rattle.std.specs.List.{AllByRecursion}
 use Rattle.xd_doc.specs.Document.{Document}
-use Rattle.xd_doc.specs.StoreNodes.{Keeps}
 use Rattle.xd_auto.specs.declared.auto.State.{State}
 use Rattle.xd_auto.specs.Automaton.{Automaton, Extends, IsClosed, IsState, accepts}
 use Rattle.xd_auto.proofs.ExtendsLemmas.{keeps}
@@ -16,9 +15,6 @@ use Rattle.xd_points.specs.Tables.{TablesStay, takes_alone}
 use Rattle.xd_points.proofs.GrowsLemmas.{meaning_stays}
 use Rattle.xd_points.proofs.PlaceLemmas.{there_still}
 use Rattle.xd_points.proofs.StayLaws.{expanded_stays, meanings_stay}
-
-pub documents_stay : (ds : List Document) → Keeps ds ds
-documents_stay ds = record { belongs = λ seq h. h; same = λ seq h. refl }
 
 -- the automaton of points extends the old one
 pub made_extends : (a : Automaton) (b : PatternStates) (old mid new : Points) → length old.made ≡ length old.points.items → ArePoints a b new → Grows old mid → length mid.points.items ≤ length new.points.items

@@ -2,7 +2,6 @@
 use Rattle.std.proofs.Common.{◌≡◌, ℕ, Bool, true, false, ◌||◌, cond, List, [], ◌∷◌, ◌++◌, map, Option, Some, None, IsSomeAnd, option_map, refl, ap, sym, subst, ◌∙◌}
 use Rattle.std.specs.List.{slice_get}
 use Rattle.std.specs.Str.{bytes_eq}
-use Rattle.std.proofs.lemmas.Slice.Eq.{bytes_eq-Decides}
 use Rattle.xd_doc.specs.Document.{Document, is_proper}
 use Rattle.xd_auto.specs.declared.auto.State.{State}
 use Rattle.xd_auto.specs.Automaton.{Automaton, accepts}
@@ -14,6 +13,7 @@ use Rattle.xd_meaning.specs.Bindings.{variables_of, bound_to, bindings_in}
 use Rattle.xd_meaning.specs.FirstMatch.{first}
 use Rattle.xd_meaning.specs.Meaning.{Environment, looked_up}
 use Rattle.xd_laws.proofs.DecisionLemmas.{first_way}
+use Rattle.xd_laws.proofs.Unfoldings.{same_word_eq}
 use Rattle.xd_pattern_runs.specs.Runs as runs
 use Rattle.xd_pattern_runs.specs.Runs.{Run}
 use Rattle.xd_pattern_runs.specs.Laws.{first_of, run_bindings}
@@ -27,9 +27,6 @@ use Rattle.xd_clauses.proofs.Forms.{same_trace, held_same}
 use Rattle.xd_clauses.proofs.NumberedLemmas.{alone_joined, alone_parts}
 use Rattle.xd_prefer.specs.Preferred.{Prefers}
 
-same_word : (x y : List ℕ) → bytes_eq x y ≡ true → x ≡ y
-same_word x y e = (bytes_eq-Decides x y).0 e
-
 -- what is looked up among what a run gives
 looked_up-run : (xs : List (List ℕ)) (d : Document) (r : Run) (x : List ℕ) → has_word xs x ≡ true → looked_up (run_bindings xs d r) x ≡ Some (runs.held x d r)
 looked_up-run [] d r x h = absurd (cc)
@@ -37,7 +34,7 @@ looked_up-run (y ∷ ys) d r x h = go (bytes_eq y x) refl h (λ k. looked_up-run
   where
     go : (b : Bool) → bytes_eq y x ≡ b → (b || has_word ys x) ≡ true → (has_word ys x ≡ true → looked_up (run_bindings ys d r) x ≡ Some (runs.held x d r))
         → cond b (Some (runs.held y d r)) (looked_up (run_bindings ys d r) x) ≡ Some (runs.held x d r)
-    go true e k more = ap (λ w. Some (runs.held w d r)) (same_word y x e)
+    go true e k more = ap (λ w. Some (runs.held w d r)) (same_word_eq y x e)
     go false e k more = more k
 
 -- what is looked up among the bindings of these variables
@@ -51,17 +48,17 @@ looked_up-in vs (y ∷ ys) x h = go (looked_up vs y) refl (bytes_eq y x) refl h 
       where
         put : (o : Option Document) → looked_up vs z ≡ o → (b : Bool) → bytes_eq z x ≡ b → looked_up (bindings_in zs vs) x ≡ None → looked_up (bound_to z o ++ bindings_in zs vs) x ≡ None
         put None e b q rec = rec
-        put (Some d) e true q rec = let same : looked_up vs x ≡ Some d = ap (looked_up vs) (sym (same_word z x q)) ∙ e in absurd (cc)
+        put (Some d) e true q rec = let same : looked_up vs x ≡ Some d = ap (looked_up vs) (sym (same_word_eq z x q)) ∙ e in absurd (cc)
         put (Some d) e false q rec = ap (λ b. cond b (Some d) (looked_up (bindings_in zs vs) x)) q ∙ rec
 
     go : (o : Option Document) → looked_up vs y ≡ o → (b : Bool) → bytes_eq y x ≡ b → (b || has_word ys x) ≡ true → (has_word ys x ≡ true → looked_up (bindings_in ys vs) x ≡ looked_up vs x)
         → looked_up (bound_to y o ++ bindings_in ys vs) x ≡ looked_up vs x
     go None e true q k rec =
-        let none : looked_up vs x ≡ None = ap (looked_up vs) (sym (same_word y x q)) ∙ e in
+        let none : looked_up vs x ≡ None = ap (looked_up vs) (sym (same_word_eq y x q)) ∙ e in
         missing ys none ∙ sym none
     go None e false q k rec = rec k
     go (Some d) e true q k rec =
-        ap (λ b. cond b (Some d) (looked_up (bindings_in ys vs) x)) q ∙ sym e ∙ ap (looked_up vs) (same_word y x q)
+        ap (λ b. cond b (Some d) (looked_up (bindings_in ys vs) x)) q ∙ sym e ∙ ap (looked_up vs) (same_word_eq y x q)
     go (Some d) e false q k rec = ap (λ b. cond b (Some d) (looked_up (bindings_in ys vs) x)) q ∙ rec k
 
 -- the first of some runs with their marks

@@ -2,16 +2,13 @@
 use Rattle.std.proofs.Common.{◌≡◌, ◌↔◌, ℕ, zero, suc, ◌+◌, ◌-◌, ◌<◌, ◌≤◌, arith, Bool, true, false, ◌&&◌, List, [], ◌∷◌, ◌++◌, map, length, length-append, append_assoc, append-nil, Option, Some, None, refl, ap, sym, subst, ◌∙◌}
 use Rattle.std.specs.Prelude.{nat_eq, nat_lt}
 use Rattle.std.specs.List.{AllByRecursion}
-use Rattle.std.proofs.lemmas.Bool.{eq-eqb, eqb-true, ltb-true, lt-ltb}
+use Rattle.std.proofs.lemmas.Bool.{eq-eqb, eqb-true, ltb-true, lt-ltb, and_from}
+use Rattle.xd_doc.proofs.Bools.{and_parts}
+use Rattle.xd_doc.proofs.Lists.{map_append}
 use Rattle.xd_meaning.specs.Consistent.{Case}
-use Rattle.xd_laws.proofs.WordLists.{both}
 use Rattle.xd_proof.specs.Parts.{Part, goal_count, goal_part, left_part, right_part, empty_part, case_part, end_part}
 use Rattle.xd_proof.specs.Form.{Block, empty_parts, block_parts, blocks_from, goal_list}
 use Rattle.xd_proof.specs.Course.{Course, at_count, at_first_goal, at_left, in_rights, in_cases, at_end, only_if, plain_block, with_empty, with_case, after_goal, next, and_on, along}
-
-both_true : (a b : Bool) → a ≡ true → b ≡ true → (a && b) ≡ true
-both_true true b p q = q
-both_true false b p q = absurd (cc)
 
 pub only : {B : Type 0} (b : Bool) (x y : B) → only_if b x ≡ Some y → (b ≡ true) × (x ≡ y)
 only true x y e = (refl, cc)
@@ -20,10 +17,6 @@ only false x y e = absurd (cc)
 pub only_true : {B : Type 0} (b : Bool) (x : B) → b ≡ true → only_if b x ≡ Some x
 only_true true x e = refl
 only_true false x e = absurd (cc)
-
-map_joined : {A B : Type 0} (f : A → B) (xs ys : List A) → map f (xs ++ ys) ≡ map f xs ++ map f ys
-map_joined f [] ys = refl
-map_joined f (x ∷ xs) ys = ap (λ l. f x ∷ l) (map_joined f xs ys)
 
 module _ {A : Type 0} where
   -- the lines that a course has after it
@@ -63,14 +56,14 @@ module _ {A : Type 0} where
   right_grown : (k : ℕ) (T : A) (Us : List A) (U : A) → block_parts k (plain_block T (Us ++ U ∷ [])) ≡ block_parts k (plain_block T Us) ++ right_part U ∷ []
   right_grown k T Us U =
       ap (λ l. goal_part k ∷ left_part T ∷ l)
-      (append-nil (map right_part (Us ++ U ∷ [])) ∙ map_joined right_part Us (U ∷ []) ∙ ap (λ l. l ++ right_part U ∷ []) (sym (append-nil (map right_part Us))))
+      (append-nil (map right_part (Us ++ U ∷ [])) ∙ map_append right_part Us (U ∷ []) ∙ ap (λ l. l ++ right_part U ∷ []) (sym (append-nil (map right_part Us))))
 
   empty_grown : (k : ℕ) (T : A) (Us : List A) (m : ℕ) → block_parts k (with_empty T Us m) ≡ block_parts k (plain_block T Us) ++ empty_part m ∷ []
   empty_grown k T Us m = ap (λ l. goal_part k ∷ left_part T ∷ (l ++ empty_part m ∷ [])) (sym (append-nil (map right_part Us)))
 
   case_grown : (k : ℕ) (b : Block A) (c : Case) → block_parts k (with_case b c) ≡ block_parts k b ++ case_part c ∷ []
   case_grown k b c =
-      ap (λ l. goal_part k ∷ left_part b.left ∷ (map right_part b.rights ++ (empty_parts b.empty_right ++ l))) (map_joined case_part b.cases (c ∷ []))
+      ap (λ l. goal_part k ∷ left_part b.left ∷ (map right_part b.rights ++ (empty_parts b.empty_right ++ l))) (map_append case_part b.cases (c ∷ []))
       ∙ ap (λ l. goal_part k ∷ left_part b.left ∷ (map right_part b.rights ++ l)) (sym (append_assoc (empty_parts b.empty_right) (map case_part b.cases) (case_part c ∷ [])))
       ∙ ap (λ l. goal_part k ∷ left_part b.left ∷ l) (sym (append_assoc (map right_part b.rights) (empty_parts b.empty_right ++ map case_part b.cases) (case_part c ∷ [])))
 
@@ -82,7 +75,7 @@ module _ {A : Type 0} where
       Comes (goal_count n ∷ (blocks_from 1 bs ++ block_parts (length bs + 1) b)) p d
   behind_goal n bs b (goal_part k) d s e =
       let r = only (nat_eq k (length bs + 2) && nat_lt (length bs + 1) n) (at_left n (bs ++ b ∷ [])) d e in
-      let q = both (nat_eq k (length bs + 2)) (nat_lt (length bs + 1) n) r.0 in
+      let q = and_parts (nat_eq k (length bs + 2)) (nat_lt (length bs + 1) n) r.0 in
       let kk = eqb-true k (length bs + 2) q.0 in
       let j : length (bs ++ b ∷ []) + 1 ≡ k = omega (arith, length-append bs (b ∷ []), kk) in
       let lt = ltb-true (length bs + 1) n q.1 in
@@ -206,7 +199,7 @@ module _ {A : Type 0} where
       block_end n bs b (goal_part k) (inner c ++ blocks_from (k + 1) cs ++ end_part ∷ []) tt
       ∙ ap (λ o. along o (inner c ++ blocks_from (k + 1) cs ++ end_part ∷ []))
       (only_true (nat_eq k (length bs + 2) && nat_lt (length bs + 1) n) (at_left n (bs ++ b ∷ []))
-      (both_true _ _ (eq-eqb k (length bs + 2) ke) (lt-ltb (length bs + 1) n (omega (arith, e)))))
+      (and_from _ _ (eq-eqb k (length bs + 2) ke) (lt-ltb (length bs + 1) n (omega (arith, e)))))
       ∙ ap (λ l. along (Some (at_left n (bs ++ b ∷ []))) l) (append_assoc (inner c) (blocks_from (k + 1) cs) (end_part ∷ []))
       ∙ follows n (bs ++ b ∷ []) c cs (k + 1) (omega (arith, length-append bs (b ∷ []), ke)) (omega (arith, length-append bs (b ∷ []), e))
       ∙ ap (λ l. Some (at_end l)) (append_assoc bs (b ∷ []) (c ∷ cs))

@@ -5,7 +5,7 @@ mod CaseLemmas
 mod KeywordLemmas
 pub mod CourseLemmas
 pub mod LineLemmas
-mod NumberLemmas
+pub mod NumberLemmas
 pub mod BeginLemmas
 pub mod Unique
 pub mod OneText

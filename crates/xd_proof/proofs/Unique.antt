@@ -9,9 +9,10 @@ use Rattle.std.proofs.lemmas.List.{append_cancel_left}
 use Rattle.std.proofs.lemmas.Str.Parse.{IsNumeralModel, numerals_by_value}
 use Rattle.std.proofs.lemmas.Fmt.{decimal_is_IsNumeral, digits_decimal}
 use Rattle.xd_doc.specs.Word.{is_word, is_word_start, is_word_part, are_word_parts}
+use Rattle.xd_doc.proofs.Bools.{and_parts}
+use Rattle.xd_doc.proofs.Lists.{all_append, same_fronts}
 use Rattle.xd_syntax.specs.Tree.{Tree}
 use Rattle.xd_meaning.specs.Consistent.{Atom, this_label, other_label, this_text, other_text, ChoiceTree, settles_content, settles_rest, split_on, Case}
-use Rattle.xd_laws.proofs.WordLists.{both}
 use Rattle.xd_doc.specs.Document.{escaped_all}
 use Rattle.xd_lex.specs.declared.LexFault.{LexFault}
 use Rattle.xd_lex.specs.Scan.{quoted as scanned}
@@ -31,7 +32,7 @@ decimal_one n m p q e = sym (decimal_is_IsNumeral n (fits n p)).1 ∙ ap (digits
 pub number_one : (bs : List ℕ) (n m : ℕ) → SpellsNumber bs n → SpellsNumber bs m → n ≡ m
 number_one bs n m s t = decimal_one n m s.number t.number (sym s.digits ∙ t.digits)
 
-digits_model : IsNumeralModel (AllByRecursion (IsInRange 48 57)) (digits_value 10)
+pub digits_model : IsNumeralModel (AllByRecursion (IsInRange 48 57)) (digits_value 10)
 digits_model = numerals_by_value _ (record { empty = tt; parts = λ c cs p. p; more = λ c cs r p. (r, p) })
 
 no_space : (ds : List ℕ) → AllByRecursion (IsInRange 48 57) ds → IsFreeOf space ds
@@ -49,21 +50,17 @@ start_free c h e = let k : false ≡ true = subst (λ x. is_word_start x ≡ tru
 
 parts_free : (cs : List ℕ) → are_word_parts cs ≡ true → IsFreeOf space cs
 parts_free [] h = tt
-parts_free (c ∷ cs) h = let r = both _ _ h in (part_free c r.0, parts_free cs r.1)
+parts_free (c ∷ cs) h = let r = and_parts _ _ h in (part_free c r.0, parts_free cs r.1)
 
 word_free : (l : List ℕ) → is_word l ≡ true → IsFreeOf space l
 word_free [] h = tt
-word_free (c ∷ cs) h = let r = both _ _ h in (start_free c r.0, parts_free cs r.1)
-
-all_joined : {A : Type 0} (P : A → Type 0) (xs ys : List A) → AllByRecursion P xs → AllByRecursion P ys → AllByRecursion P (xs ++ ys)
-all_joined P [] ys a b = b
-all_joined P (x ∷ xs) ys a b = (a.0, all_joined P xs ys a.1 b)
+word_free (c ∷ cs) h = let r = and_parts _ _ h in (start_free c r.0, parts_free cs r.1)
 
 pub tree_free : (t : ChoiceTree) → HasNumbers t → AllByRecursion (IsFreeOf space) (tree_words t)
 tree_free (settles_content n) h = (((λ e. omega (arith, e)), tt), (decimal_free n h, tt))
 tree_free (settles_rest n) h = (((λ e. omega (arith, e)), tt), (decimal_free n h, tt))
 tree_free (split_on n A B) h =
-    (((λ e. omega (arith, e)), tt), (decimal_free n h.0, all_joined (IsFreeOf space) (tree_words A) (tree_words B) (tree_free A h.1) (tree_free B h.2)))
+    (((λ e. omega (arith, e)), tt), (decimal_free n h.0, all_append (IsFreeOf space) (tree_words A) (tree_words B) (tree_free A h.1) (tree_free B h.2)))
 
 -- trees whose words stand before others
 tree_one : (t u : ChoiceTree) (xs ys : List (List ℕ)) → HasNumbers t → HasNumbers u → tree_words t ++ xs ≡ tree_words u ++ ys → (t ≡ u) × (xs ≡ ys)
@@ -90,15 +87,6 @@ abbrev pub is_text_atom : Atom → Bool
 is_text_atom (this_text s) = true
 is_text_atom _ = false
 
-append_parts : (xs ys r q : List ℕ) → length xs ≡ length ys → xs ++ r ≡ ys ++ q → (xs ≡ ys) × (r ≡ q)
-append_parts [] [] r q h e = (refl, e)
-append_parts [] (y ∷ ys) r q h e = absurd (omega (arith, h))
-append_parts (x ∷ xs) [] r q h e = absurd (omega (arith, h))
-append_parts (x ∷ xs) (y ∷ ys) r q h e =
-    let a : x ≡ y = cc in
-    let b = append_parts xs ys r q (omega (arith, h)) (ap (λ l. drop 1 l) e) in
-    (ap (λ z. z ∷ xs) a ∙ ap (λ l. y ∷ l) b.0, b.1)
-
 no_word : (l w : List ℕ) → l ≡ w → is_word l ≡ true → is_word w ≡ false → ⊥
 no_word l w e h k = let z : is_word w ≡ true = subst (λ x. is_word x ≡ true) e h in let y : false ≡ true = sym k ∙ z in cc
 
@@ -109,13 +97,13 @@ quoted_one s t r q e =
     let a : escaped_all s ++ 34 ∷ r ≡ escaped_all t ++ 34 ∷ q =
     sym (append_assoc (escaped_all s) (34 ∷ []) r) ∙ ap (λ l. drop 1 l) e ∙ append_assoc (escaped_all t) (34 ∷ []) q in
     let k : length (escaped_all s) + 1 ≡ length (escaped_all t) + 1 = ok_one _ _ (sym (quoted-escaped s r) ∙ ap (λ l. scanned false l) a ∙ quoted-escaped t q) in
-    let p = append_parts (escaped_all s) (escaped_all t) (34 ∷ r) (34 ∷ q) (omega (arith, k)) a in
+    let p = same_fronts (escaped_all s) (escaped_all t) (34 ∷ r) (34 ∷ q) (omega (arith, k)) a in
     (sym (unescaped-escaped s) ∙ ap (λ l. unescaped (34 ∷ l ++ 34 ∷ [])) p.0 ∙ unescaped-escaped t, ap (λ l. drop 1 l) p.1)
 
 -- not the front of a text in quotes
 pub word_no_quote : (l r : List ℕ) → is_word l ≡ true → get_or (l ++ r) 0 0 ≡ 34 → ⊥
 word_no_quote [] r h e = cc
-word_no_quote (c ∷ cs) r h e = let k = (both _ _ h).0 in let z : false ≡ true = subst (λ x. is_word_start x ≡ true) e k in cc
+word_no_quote (c ∷ cs) r h e = let k = (and_parts _ _ h).0 in let z : false ≡ true = subst (λ x. is_word_start x ≡ true) e k in cc
 
 pub plain_no_quote : (a : Atom) (r s q : List ℕ) → IsAtom a → (is_text_atom a ≡ false) → atom_word a ++ space ∷ r ≡ quoted s ++ space ∷ q → ⊥
 plain_no_quote (this_label l) r s q h p e = word_no_quote l (space ∷ r) h (ap (λ l. get_or l 0 0) e)

@@ -1,6 +1,7 @@
 -- A proof, checked.
-use Rattle.std.proofs.Common.{◌≡◌, ◌<◌, ◌↔◌, arith, Bool, true, false, List, [], ◌∷◌, length, refl, ap, sym, ◌∙◌}
+use Rattle.std.proofs.Common.{◌≡◌, ◌<◌, ◌↔◌, arith, Bool, List, [], ◌∷◌, length, refl, ap, sym, ◌∙◌}
 use Rattle.std.specs.List.{AllByRecursion, AllZip}
+use Rattle.xd_doc.proofs.Bools.{same_tests}
 use Rattle.xd_syntax.specs.Tree.{Tree, Definitions}
 use Rattle.xd_syntax.specs.Table.{Row, KeepsRows, tree_at}
 use Rattle.xd_syntax.specs.SoundTables.{IsTypeAt}
@@ -78,15 +79,10 @@ goals_stay old new k (m ∷ ms) (l ∷ ls) z =
 
 -- ---- what is known
 
-bool_same : (a b : Bool) → (a ≡ true → b ≡ true) → (b ≡ true → a ≡ true) → a ≡ b
-bool_same true b f g = sym (f refl)
-bool_same false true f g = g refl
-bool_same false false f g = refl
-
 known_of : (p : ProgramTable) → IsSound (program_tree p) → (marks : List Bool) → AreEmptyMarks p.types p.type_defs marks → MarksDecide p.types (names_of (program_tree p)) marks
 known_of p s marks m i h =
     let d = empty_decides (program_tree p) s (tree_at p.types i) in
-    let x = m.exact i h in bool_same (is_marked marks i) (can_be_empty (names_of (program_tree p)) (tree_at p.types i)) (λ e. d.1 (x.0 e)) (λ e. x.1 (d.0 e))
+    let x = m.exact i h in same_tests (is_marked marks i) (can_be_empty (names_of (program_tree p)) (tree_at p.types i)) (λ e. d.1 (x.0 e)) (λ e. x.1 (d.0 e))
 
 pub stands : (p : ProgramTable) (l : HeadLister) → Serves p l → (goals : List ProofGoal) (gs : List Goal) → AllZip (IsClaimAt p.types) goals gs →
     Stands p.types l.cells gs (record { goals = goals; numbers = l.numbers.items })

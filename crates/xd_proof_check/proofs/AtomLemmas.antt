@@ -1,25 +1,23 @@
 -- Names in byte order, and the atoms of a head.
-use Rattle.std.proofs.Common.{◌≡◌, ℕ, Bool, true, false, not, cond, ◌||◌, ◌&&◌, nat_eq, List, [], ◌∷◌, ◌++◌, map, flat_map, refl, ap, sym, subst, ◌∙◌, append-nil, append_assoc}
+use Rattle.std.proofs.Common.{◌≡◌, ℕ, Bool, true, false, not, cond, ◌||◌, ◌&&◌, nat_eq, List, [], ◌∷◌, ◌++◌, map, flat_map, refl, ap, sym, subst, ◌∙◌, append-nil}
 use Rattle.std.specs.List.{AllByRecursion, filter}
 use Rattle.std.specs.List.Sorted.{IsStrictlySortedBy}
 use Rattle.std.specs.Ordering.{nat_cmp}
 use Rattle.std.specs.Cmp.Lexicographic.{slice_cmp, pointwise, texts_ties}
 use Rattle.std.proofs.lemmas.Cmp.{nat_list_cmp_total}
-use Rattle.std.proofs.lemmas.Slice.Eq.{bytes_eq-Decides}
 use Rattle.std.proofs.lemmas.List.Kept.{IsStrictlySortedBy-filter}
 use Rattle.std.specs.declared.cmp.Ordering.{Ordering}
 use Rattle.std.specs.declared.cmp.Ordering.TheVariants.{Less, Equal, Greater}
+use Rattle.std.proofs.lemmas.Bool.{or_right}
 use Rattle.xd_doc.specs.Classes.{NameClass, LabelClass, TextClass, is_named, class_has}
-use Rattle.xd_doc.proofs.SortedNames.{same_words}
+use Rattle.xd_doc.proofs.SortedNames.{same_words, same_is}
+use Rattle.xd_doc.proofs.Bools.{or_swap, or_twice}
 use Rattle.xd_meaning.specs.Heads.{HeadKind, element_in, text_in}
 use Rattle.xd_meaning.specs.Consistent.{Atom, this_label, other_label, this_text, other_text, put_word, in_byte_order, matches_atom, atoms_of}
 use Rattle.xd_proof_check.specs.Names.{Names}
 
 abbrev R : List ℕ → List ℕ → Ordering
 R x y = slice_cmp nat_cmp x y
-
-same_is : (x y : List ℕ) → pointwise nat_eq x y ≡ true → x ≡ y
-same_is x y h = (bytes_eq-Decides x y).0 h
 
 is_equal : Ordering → Bool
 is_equal Less = false
@@ -63,16 +61,6 @@ put_sorted w (v ∷ vs) s = go (R w v) refl (put_sorted w vs s.1)
     go Equal e i = s
     go Greater e i = (all_put (λ y. R v y ≡ Less) w vs (greater_back w v e) s.0, i)
 
-or_swap : (a b c : Bool) → (a || (b || c)) ≡ (b || (a || c))
-or_swap true true c = refl
-or_swap true false c = refl
-or_swap false true c = refl
-or_swap false false c = refl
-
-or_twice : (a c : Bool) → (a || c) ≡ (a || (a || c))
-or_twice true c = refl
-or_twice false c = refl
-
 put_names : (w : List ℕ) (vs : List (List ℕ)) (l : List ℕ) → is_named (put_word w vs) l ≡ (pointwise nat_eq w l || is_named vs l)
 put_names w [] l = refl
 put_names w (v ∷ vs) l = go (R w v) refl (put_names w vs l)
@@ -99,10 +87,6 @@ in_order names ws s h = same_words names (in_byte_order ws) s (ordered_sorted ws
 
 -- ---- what a head names is named
 
-or_true_right : (a b : Bool) → b ≡ true → (a || b) ≡ true
-or_true_right true b h = refl
-or_true_right false b h = h
-
 named_left : (xs ys : List (List ℕ)) (l : List ℕ) → is_named xs l ≡ true → is_named (xs ++ ys) l ≡ true
 named_left [] ys l h = cc
 named_left (x ∷ xs) ys l h = go (pointwise nat_eq x l) h (λ k. named_left xs ys l k)
@@ -113,7 +97,7 @@ named_left (x ∷ xs) ys l h = go (pointwise nat_eq x l) h (λ k. named_left xs 
 
 named_right : (xs ys : List (List ℕ)) (l : List ℕ) → is_named ys l ≡ true → is_named (xs ++ ys) l ≡ true
 named_right [] ys l h = h
-named_right (x ∷ xs) ys l h = or_true_right (pointwise nat_eq x l) (is_named (xs ++ ys) l) (named_right xs ys l h)
+named_right (x ∷ xs) ys l h = or_right (pointwise nat_eq x l) (is_named (xs ++ ys) l) (named_right xs ys l h)
 
 pub named_among : (f : HeadKind → List (List ℕ)) (before after : List HeadKind) (k : HeadKind) → Names (in_byte_order (flat_map f (before ++ k ∷ after))) (f k)
 named_among f before after k l h = ordered_names (flat_map f (before ++ k ∷ after)) l ∙ go before
@@ -206,14 +190,6 @@ text_atoms_are w labels texts =
   where
     p : Atom → Bool
     p a = matches_atom a (text_in w)
-
-pub flat_both : {A B : Type 0} (f : A → List B) (xs ys : List A) → flat_map f (xs ++ ys) ≡ flat_map f xs ++ flat_map f ys
-flat_both f [] ys = refl
-flat_both f (x ∷ xs) ys = ap (λ zs. f x ++ zs) (flat_both f xs ys) ∙ sym (append_assoc (f x) (flat_map f xs) (flat_map f ys))
-
-pub map_both : {A B : Type 0} (f : A → B) (xs ys : List A) → map f (xs ++ ys) ≡ map f xs ++ map f ys
-map_both f [] ys = refl
-map_both f (x ∷ xs) ys = ap (λ zs. f x ∷ zs) (map_both f xs ys)
 
 -- the atoms that are put, where the class has the others
 pub with_others : (f : List ℕ → Atom) (other : Atom) (c : NameClass) (old mid new : List Atom) (names labels : List (List ℕ)) → old ≡ [] → names ≡ labels →

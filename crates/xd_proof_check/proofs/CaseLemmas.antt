@@ -5,9 +5,9 @@ use Rattle.std.specs.Option.{IfNone, option_map}
 use Rattle.std.proofs.lemmas.Bool.{eqb-true}
 use Rattle.std.proofs.lemmas.List.{drop_all}
 use Rattle.std.proofs.Math.Seq.{drop-cons}
+use Rattle.xd_doc.proofs.Lists.{all_at, zip_long, length-mapped}
 use Rattle.xd_syntax.specs.Tree.{Definitions}
 use Rattle.xd_syntax.specs.Table.{Row}
-use Rattle.xd_syntax.proofs.TableRows.{all_at}
 use Rattle.xd_meaning.specs.Heads as laws
 use Rattle.xd_meaning.specs.Consistent.{Atom, Case, ChoiceTree, Goal, HeadAtom, atoms_from, atoms_of, named, in_byte_order, labels_of, texts_of, right_heads, numbered}
 use Rattle.xd_meaning.specs.Consistent as proof
@@ -38,12 +38,6 @@ use Rattle.xd_proof_check.proofs.AtomLemmas.{named_among}
 
 abbrev named_lists : List (List ℕ) → List (List ℕ) → proof.Named
 named_lists ls ts = record { labels = ls; texts = ts }
-
-zip_long : {A B : Type 0} (P : A → B → Type 0) (xs : List A) (ys : List B) → AllZip P xs ys → length xs ≡ length ys
-zip_long P [] [] z = refl
-zip_long P [] (y ∷ ys) z = absurd z
-zip_long P (x ∷ xs) [] z = absurd z
-zip_long P (x ∷ xs) (y ∷ ys) z = ap suc (zip_long P xs ys z.1)
 
 zip_at : {A B : Type 0} (P : A → B → Type 0) (xs : List A) (ys : List B) → AllZip P xs ys → (i : ℕ) (d : A) → i < length xs → (y : B) × (drop i ys ≡ y ∷ drop (suc i) ys) × P (get_or xs i d) y
 zip_at P [] ys z i d h = absurd (omega arith)
@@ -87,14 +81,10 @@ setting_at v a h = record {
   rests = v.rests;
 }
 
-length-map' : {A B : Type 0} (f : A → B) (xs : List A) → length (map f xs) ≡ length xs
-length-map' f [] = refl
-length-map' f (x ∷ xs) = ap suc (length-map' f xs)
-
 pub fits_setting : (v : CasesView) (a : Atom) (h : NumberedHead) (p : Path) → CasesFit v p → IsSetting (setting_at v a h) p
 fits_setting v a h p f =
-    let l : length v.contents ≡ length v.rights = ap length f.contents ∙ length-map' (λ (h : NumberedHead). h.content) v.rights in
-    let m : length v.rests ≡ length v.rights = ap length f.rests ∙ length-map' (λ (h : NumberedHead). h.rest) v.rights in
+    let l : length v.contents ≡ length v.rights = ap length f.contents ∙ length-mapped (λ (h : NumberedHead). h.content) v.rights in
+    let m : length v.rests ≡ length v.rights = ap length f.rests ∙ length-mapped (λ (h : NumberedHead). h.rest) v.rights in
     record {
       belong = f.belong;
       contents = f.on_content;

@@ -3,6 +3,7 @@ use Rattle.std.proofs.Common.{◌≡◌, ℕ, zero, suc, ◌+◌, ◌<◌, ◌�
 use Rattle.std.specs.List.{AllByRecursion, AllZip}
 use Rattle.std.specs.Option.{option_map}
 use Rattle.std.proofs.lemmas.List.{drop_all}
+use Rattle.xd_doc.proofs.Lists.{zip_long}
 use Rattle.xd_syntax.specs.Tree.{Tree, Definitions}
 use Rattle.xd_syntax.specs.Table.{Row}
 use Rattle.xd_syntax.specs.Types.{tree}
@@ -26,12 +27,6 @@ use Rattle.xd_proof_check.specs.GoalHeads.{AreGoalHeads}
 use Rattle.xd_proof_check.specs.GoalWalk.{MarksDecide, SheetView, Stands, breach_of, empty_marked, empty_marked_by, right_marked}
 use Rattle.xd_proof_check.specs.declared.check.Breach.{Breach}
 use Rattle.xd_proof_check.specs.declared.heads.GoalHeads.{GoalHeads}
-
-zip_long : {A B : Type 0} (P : A → B → Type 0) (xs : List A) (ys : List B) → AllZip P xs ys → length xs ≡ length ys
-zip_long P [] [] z = refl
-zip_long P [] (y ∷ ys) z = absurd z
-zip_long P (x ∷ xs) [] z = absurd z
-zip_long P (x ∷ xs) (y ∷ ys) z = ap suc (zip_long P xs ys z.1)
 
 module _ (types : List Row) (E : Definitions) (marks : List Bool) (known : MarksDecide types E marks) where
   mark_same : (id : TypeId) (T : Tree) → IsTypeAt types T id → is_marked marks id.at ≡ can_be_empty E T

@@ -1,8 +1,9 @@
 -- Heads of goals, while the lister meets more continuations.
-use Rattle.std.proofs.Common.{◌≡◌, ℕ, zero, suc, ◌+◌, ◌<◌, ◌≤◌, arith, inl, inr, List, [], ◌∷◌, ◌++◌, flat_map, map, length, take, get_or, refl, ap, sym, subst, ◌∙◌, append-nil, append_assoc}
+use Rattle.std.proofs.Common.{◌≡◌, ℕ, zero, suc, ◌+◌, ◌<◌, ◌≤◌, arith, inl, inr, List, [], ◌∷◌, ◌++◌, flat_map, map, length, take, get_or, refl, ap, sym, subst, ◌∙◌, append-nil}
 use Rattle.std.specs.List.{AllByRecursion, AllZip}
 use Rattle.std.proofs.lemmas.List.{take_more}
 use Rattle.std.proofs.lemmas.Bool.{cases_lt}
+use Rattle.xd_doc.proofs.Lists.{zip_both, flat_more}
 use Rattle.xd_syntax.specs.Kept.{ProgramTable}
 use Rattle.xd_syntax.specs.Table.{Row}
 use Rattle.xd_syntax.specs.Tree.{Definitions}
@@ -34,16 +35,6 @@ heads_kept types old new k [] [] z = tt
 heads_kept types old new k [] (h ∷ hs) z = absurd z
 heads_kept types old new k (m ∷ ms) [] z = absurd z
 heads_kept types old new k (m ∷ ms) (h ∷ hs) z = (numbered_kept types old new k m h z.0, heads_kept types old new k ms hs z.1)
-
-zip_both : {A B : Type 0} (P : A → B → Type 0) (xs : List A) (ys : List B) (vs : List A) (ws : List B) → AllZip P xs ys → AllZip P vs ws → AllZip P (xs ++ vs) (ys ++ ws)
-zip_both P [] [] vs ws z u = u
-zip_both P [] (y ∷ ys) vs ws z u = absurd z
-zip_both P (x ∷ xs) [] vs ws z u = absurd z
-zip_both P (x ∷ xs) (y ∷ ys) vs ws z u = (z.0, zip_both P xs ys vs ws z.1 u)
-
-flat_more : {A B : Type 0} (f : A → List B) (xs : List A) (y : A) → flat_map f (xs ++ y ∷ []) ≡ flat_map f xs ++ f y
-flat_more f [] y = append-nil (f y)
-flat_more f (x ∷ xs) y = ap (λ zs. f x ++ zs) (flat_more f xs y) ∙ sym (append_assoc (f x) (flat_map f xs) (f y))
 
 -- one more type's heads
 pub heads_more : (types : List Row) (old new : List Cell) (E : Definitions) (ids : List TypeId) (i : ℕ) (d : TypeId) (made made' more : List NumberedHead) → KeepsLinks old new → i < length ids →
@@ -124,17 +115,3 @@ cases_fit s g h p f cs ls rs contents rests c r k m =
       rests = m;
       split = subst (λ xs. length xs ≤ length p.split.items) (sym r) f.split;
     }
-
--- one more element of a mapped front
-pub map-take_more : {A B : Type 0} (f : A → B) (xs : List A) (i : ℕ) (x : A) → i < length xs → x ≡ get_or xs i x → map f (take (i + 1) xs) ≡ map f (take i xs) ++ f x ∷ []
-map-take_more {A} {B} f xs i x lt e = ap (map f) (take_more xs i x lt) ∙ mapped (take i xs) (get_or xs i x) ∙ ap (λ (y : A). map f (take i xs) ++ f y ∷ []) (sym e)
-  where
-    mapped : (ys : List A) (y : A) → map f (ys ++ y ∷ []) ≡ map f ys ++ f y ∷ []
-    mapped [] y = refl
-    mapped (z ∷ ys) y = ap (λ (zs : List B). f z ∷ zs) (mapped ys y)
-
--- what holds of all holds of the one at a place
-pub all_get : {A : Type 0} (P : A → Type 0) (xs : List A) (i : ℕ) (d : A) → AllByRecursion P xs → i < length xs → P (get_or xs i d)
-all_get P [] i d h lt = absurd (omega arith)
-all_get P (y ∷ xs) zero d h lt = h.0
-all_get P (y ∷ xs) (suc i) d h lt = all_get P xs i d h.1 (omega arith)

@@ -8,29 +8,28 @@ use Rattle.std.specs.Cmp.Lexicographic.{pointwise, slice_cmp, nat_list_eq_equiv}
 use Rattle.std.proofs.lemmas.List.{take_more}
 use Rattle.std.proofs.lemmas.List.Folds.{list_any-append}
 use Rattle.std.proofs.lemmas.Map.Text.{is_eq-slice_cmp}
+use Rattle.std.proofs.lemmas.Grind.{flat_map-append}
 use Rattle.xd_doc.specs.Classes.{is_named}
+use Rattle.xd_doc.proofs.Bools.{or_join}
+use Rattle.xd_doc.proofs.Lists.{map_append}
 use Rattle.xd_meaning.specs.Heads.{HeadKind}
 use Rattle.xd_meaning.specs.Consistent.{in_byte_order}
 use Rattle.xd_heads.specs.HeadList.{kind_at}
 use Rattle.xd_heads.specs.declared.lister.NumberedHead.{NumberedHead}
 use Rattle.xd_proof_check.specs.Atoms.{kinds_of}
 use Rattle.xd_proof_check.specs.Names.{AddsNames}
-use Rattle.xd_proof_check.proofs.AtomLemmas.{flat_both, in_order, map_both}
+use Rattle.xd_proof_check.proofs.AtomLemmas.{in_order}
 
 or_none : (b : Bool) → b ≡ (b || false)
 or_none true = refl
 or_none false = refl
-
-or_then : (a b c : Bool) → ((a || b) || c) ≡ (a || (b || c))
-or_then true b c = refl
-or_then false b c = refl
 
 pub adds_none : (names : List (List ℕ)) → AddsNames names [] names
 adds_none names l = or_none (is_named names l)
 
 pub adds_then : (a b c xs ys : List (List ℕ)) → AddsNames a xs b → AddsNames b ys c → AddsNames a (xs ++ ys) c
 adds_then a b c xs ys h k l =
-    k l ∙ ap (λ t. t || is_named ys l) (h l) ∙ or_then (is_named a l) (is_named xs l) (is_named ys l)
+    k l ∙ ap (λ t. t || is_named ys l) (h l) ∙ or_join (is_named a l) (is_named xs l) (is_named ys l)
     ∙ ap (λ t. is_named a l || t) (sym (list_any-append (λ name. pointwise nat_eq name l) xs ys))
 
 -- a set has the names that its keys are
@@ -63,8 +62,8 @@ adds_next a b c xs i x h e k m =
 
 flat_one : (f : HeadKind → List (List ℕ)) (hs : List NumberedHead) (h : NumberedHead) → flat_map f (kinds_of (hs ++ h ∷ [])) ≡ flat_map f (kinds_of hs) ++ f (kind_at h.kind)
 flat_one f hs h =
-    ap (flat_map f) (map_both (λ (x : NumberedHead). kind_at x.kind) hs (h ∷ []))
-    ∙ flat_both f (kinds_of hs) (kind_at h.kind ∷ [])
+    ap (flat_map f) (map_append (λ (x : NumberedHead). kind_at x.kind) hs (h ∷ []))
+    ∙ flat_map-append f (kinds_of hs) (kind_at h.kind ∷ [])
     ∙ ap (λ ns. flat_map f (kinds_of hs) ++ ns) (append-nil (f (kind_at h.kind)))
 
 -- what one more head names
@@ -80,4 +79,4 @@ pub both_named : (f : HeadKind → List (List ℕ)) (old mid new : List (List �
 both_named f old mid new ks js a b c names s h =
     in_order names (flat_map f ks ++ flat_map f js) s
     (λ l. h l ∙ adds_then old mid new (flat_map f ks) (flat_map f js) b c l ∙ ap (λ xs. is_named xs l || is_named (flat_map f ks ++ flat_map f js) l) a)
-    ∙ ap in_byte_order (sym (flat_both f ks js))
+    ∙ ap in_byte_order (sym (flat_map-append f ks js))

@@ -3,6 +3,7 @@ use Rattle.std.proofs.Common.{◌≡◌, ◌≢◌, ℕ, zero, suc, ◌+◌, ◌
 use Rattle.std.proofs.lemmas.List.{reverse-append, length-reverse}
 use Rattle.std.proofs.lemmas.Bool.{eq-eqb, eqb-true}
 use Rattle.std.proofs.Math.ListN.{set}
+use Rattle.xd_doc.proofs.Numbers.{same_eq}
 use Rattle.xd_moves.specs.Codes.{number_at}
 use Rattle.xd_proof_check.specs.Paths.{count_of, AreCounts, AreMarks, HasRoom, IsClear, IsPath, KeepsRoom, content_side, rest_side, heads_split, turns_of}
 use Rattle.xd_proof_check.specs.declared.path.Path.{Path}
@@ -15,9 +16,6 @@ count_bound m (n ∷ ns) = go (nat_eq n m) (count_bound m ns)
     go : (b : Bool) → count_of m ns ≤ length ns → cond b (count_of m ns + 1) (count_of m ns) ≤ suc (length ns)
     go true h = omega arith
     go false h = omega arith
-
-same_eq : (n : ℕ) → nat_eq n n ≡ true
-same_eq n = eq-eqb n n refl
 
 count_here : (n : ℕ) (ns : List ℕ) → count_of n (n ∷ ns) ≡ count_of n ns + 1
 count_here n ns = ap (λ b. cond b (count_of n ns + 1) (count_of n ns)) (same_eq n)

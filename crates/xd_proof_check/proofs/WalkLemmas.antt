@@ -2,6 +2,7 @@
 use Rattle.std.proofs.Common.{◌≡◌, ℕ, zero, suc, ◌+◌, ◌-◌, ◌<◌, ◌≤◌, arith, Bool, true, false, not, cond, ◌||◌, ◌&&◌, nat_eq, Option, Some, None, List, [], ◌∷◌, ◌++◌, map, length, refl, ap, sym, subst, ◌∙◌, append_assoc, append-nil}
 use Rattle.std.specs.List.{AllByRecursion, AllZip, list_all}
 use Rattle.std.proofs.lemmas.Bool.{eq-eqb, eqb-true}
+use Rattle.xd_doc.proofs.Bools.{or_swap, same_tests}
 use Rattle.xd_syntax.specs.Tree.{Tree}
 use Rattle.xd_syntax.specs.Table.{Row}
 use Rattle.xd_syntax.specs.SoundTables.{IsTypeAt}
@@ -23,21 +24,10 @@ use Rattle.xd_moves.specs.Cells.{Cell}
 use Rattle.xd_heads.specs.Numbered.{IsNumberIn}
 use Rattle.xd_proof_check.specs.declared.path.Turn.{Turn}
 
-bool_same : (a b : Bool) → (a ≡ true → b ≡ true) → (b ≡ true → a ≡ true) → a ≡ b
-bool_same true b f g = sym (f refl)
-bool_same false true f g = g refl
-bool_same false false f g = refl
-
 suc_same : (m n : ℕ) → nat_eq m n ≡ nat_eq (suc m) (suc n)
 suc_same m n =
-    bool_same (nat_eq m n) (nat_eq (suc m) (suc n)) (λ e. eq-eqb (suc m) (suc n) (ap suc (eqb-true m n e)))
+    same_tests (nat_eq m n) (nat_eq (suc m) (suc n)) (λ e. eq-eqb (suc m) (suc n) (ap suc (eqb-true m n e)))
     (λ e. eq-eqb m n (let q = eqb-true (suc m) (suc n) e in omega arith))
-
-or_swap : (a b c : Bool) → (a || (b || c)) ≡ (b || (a || c))
-or_swap true true c = refl
-or_swap true false c = refl
-or_swap false true c = refl
-or_swap false false c = refl
 
 next_assoc : {A : Type 0} (a b c : Option A) → or_next a (or_next b c) ≡ or_next (or_next a b) c
 next_assoc None b c = refl
@@ -55,7 +45,7 @@ sides_of (t ∷ ts) = cond t.on_rest (on_rest (suc t.right) (sides_of ts)) (on_c
 module _ (types : List Row) (cells : List Cell) (numbers : List ℕ) (known : Knows types cells numbers) where
   -- numbers tell types apart
   number_same : (k m : ℕ) (T U : Tree) → IsNumberIn types cells k T → IsNumberIn types cells m U → nat_eq k m ≡ same_tree T U
-  number_same k m T U a b = bool_same (nat_eq k m) (same_tree T U) to_tree to_number
+  number_same k m T U a b = same_tests (nat_eq k m) (same_tree T U) to_tree to_number
     where
       to_tree : nat_eq k m ≡ true → same_tree T U ≡ true
       to_tree e = subst (λ V. same_tree T V ≡ true) ((known.tell k m T U a b).0 (eqb-true k m e)) (tree_same T)

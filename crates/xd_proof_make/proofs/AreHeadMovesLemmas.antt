@@ -3,6 +3,7 @@ use Rattle.std.proofs.Common.{◌≡◌, ℕ, zero, suc, ◌+◌, ◌-◌, ◌<�
 use Rattle.std.specs.List.{AllZip, slice_get, flat_map}
 use Rattle.std.proofs.lemmas.List.{take_more, map-append, length-map}
 use Rattle.std.proofs.lemmas.Option.{get_or_from_slice_get, slice_get_within}
+use Rattle.xd_doc.proofs.Lists.{zip_long}
 use Rattle.xd_syntax.specs.Tree.{Tree, Definitions}
 use Rattle.xd_syntax.specs.Ways.{Among}
 use Rattle.xd_auto.specs.declared.auto.State.{State}
@@ -22,7 +23,7 @@ use Rattle.xd_proof_make.specs.Places.{is_text, sorts_of, numbers_of, places_of,
 
 -- ---- lists side by side
 
-zip_append : {A B : Type 0} (R : A → B → Type 0) (xs us : List A) (ys vs : List B) → AllZip R xs ys → AllZip R us vs → AllZip R (xs ++ us) (ys ++ vs)
+pub zip_append : {A B : Type 0} (R : A → B → Type 0) (xs us : List A) (ys vs : List B) → AllZip R xs ys → AllZip R us vs → AllZip R (xs ++ us) (ys ++ vs)
 zip_append R [] us [] vs h k = k
 zip_append R [] us (y ∷ ys) vs h k = absurd h
 zip_append R (x ∷ xs) us [] vs h k = absurd h
@@ -247,10 +248,6 @@ places_renumber E a C moves ss Ts z =
 
 -- ---- while numbers are put down
 
-length_push : {X : Type 0} (xs : List X) (x : X) → length (xs ++ x ∷ []) ≡ length xs + 1
-length_push [] x = refl
-length_push (y ∷ xs) x = let i = length_push xs x in omega arith
-
 length_both : {X : Type 0} (xs ys : List X) → length (xs ++ ys) ≡ length xs + length ys
 length_both [] ys = omega arith
 length_both (x ∷ xs) ys = let i = length_both xs ys in omega arith
@@ -309,16 +306,10 @@ placed_more {X} F rights i d places p1 p2 first sorts lt e f g h k =
     ∙ (sym (all_places-push 1 (map F (take i rights)) (F (get_or rights i d)) first (let l = ap length e in omega arith))
     ∙ sym (ap (λ (x : List X). all_places 1 (map F x)) (take_more rights i d lt) ∙ ap (all_places 1) (map-append F (take i rights) (get_or rights i d ∷ []))))))))
 
-pub zip_length : {A B : Type 0} (R : A → B → Type 0) (xs : List A) (ys : List B) → AllZip R xs ys → length xs ≡ length ys
-zip_length R [] [] z = refl
-zip_length R [] (y ∷ ys) z = absurd z
-zip_length R (x ∷ xs) [] z = absurd z
-zip_length R (x ∷ xs) (y ∷ ys) z = ap suc (zip_length R xs ys z.1)
-
 -- as many numbers as heads
 pub places_heads : (E : Definitions) (a : Automaton) (C : State → Option Tree) → ((s : State) (T : Tree) → C s ≡ Some T → AreHeadMoves C (heads E T) (moves_at a s).labels (moves_at a s).texts)
     → (ss : List State) (Ts : List Tree) → AreTypes C ss Ts → length (all_places 1 (map (λ T. sorts_of (heads E T)) Ts)) ≡ length (flat_map (heads_of a) ss)
-places_heads E a C moves ss Ts z = zip_length (IsAt C (flat_map (heads E) Ts)) (all_places 1 (map (λ T. sorts_of (heads E T)) Ts)) (flat_map (heads_of a) ss) (all_zip E a C moves (flat_map (heads E) Ts) ss Ts z refl)
+places_heads E a C moves ss Ts z = zip_long (IsAt C (flat_map (heads E) Ts)) (all_places 1 (map (λ T. sorts_of (heads E T)) Ts)) (flat_map (heads_of a) ss) (all_zip E a C moves (flat_map (heads E) Ts) ss Ts z refl)
 
 -- as many as the heads of the types
 pub places_of_types : (E : Definitions) (n : ℕ) (Ts : List Tree) → length (all_places n (map (λ T. sorts_of (heads E T)) Ts)) ≡ length (flat_map (heads E) Ts)

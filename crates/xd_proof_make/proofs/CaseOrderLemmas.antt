@@ -2,6 +2,7 @@
 use Rattle.std.proofs.Common.{◌≡◌, ℕ, suc, ◌+◌, ◌<◌, ◌≤◌, Bool, true, false, cond, List, [], ◌∷◌, ◌++◌, map, length, Option, Some, inl, inr, refl, sym, ap, subst, ◌∙◌, arith, append_assoc}
 use Rattle.std.specs.List.{AllByRecursion, AllZip, filter, slice_get}
 use Rattle.std.proofs.lemmas.List.{map-append}
+use Rattle.xd_doc.proofs.Lists.{all_append, length_push}
 use Rattle.xd_syntax.specs.Tree.{Tree}
 use Rattle.xd_auto.specs.declared.auto.State.{State}
 use Rattle.xd_auto.specs.declared.auto.LabelMove.{LabelMove}
@@ -78,10 +79,6 @@ pub cut_at : (bound : ℕ) (whole front back : List Choice) (xs ys : List rules.
     → map choice_key whole ≡ xs ++ ys → (map choice_key front ≡ xs) × (map choice_key back ≡ ys)
 cut_at bound whole front back xs ys c x y e = cut_keys bound front back xs ys c.below c.above x y (ap (map choice_key) (sym c.same) ∙ e)
 
-all_append : {X : Type 0} (P : X → Type 0) (xs ys : List X) → AllByRecursion P xs → AllByRecursion P ys → AllByRecursion P (xs ++ ys)
-all_append P [] ys h k = k
-all_append P (x ∷ xs) ys h k = (h.0, all_append P xs ys h.1 k)
-
 -- the keys of a head, and those of the heads after it
 keyed_all : (P : ℕ → Type 0) (n : ℕ) (atoms : List TableAtom) → P n → AllByRecursion (λ (k : rules.CaseKey). P k.head) (map (rules.keyed n) atoms)
 keyed_all P n [] p = tt
@@ -154,10 +151,6 @@ head_behind : (front : List (table.Head State)) (h : table.Head State) (back all
 head_behind front h back all l e q =
     let s : l ≡ suc (length front) = omega arith in
     ap (rules.head_number all) s ∙ slice_get-behind front h back all (length front) e refl
-
-length_push : {X : Type 0} (xs : List X) (x : X) → length (xs ++ x ∷ []) ≡ length xs + 1
-length_push [] x = refl
-length_push (y ∷ xs) x = let i = length_push xs x in omega arith
 
 module _ (C : State → Option Tree) (ns : List ChoiceNode) (places numbers : List ℕ) (nm : table.Named) (of_choices : List Choice) (all : List (table.Head State)) (ks : List Head) where
   -- where the heads that are left stand: those of the type, and the moves of the state

@@ -1,6 +1,7 @@
 -- The types of the goals of a proof: how deep they are, and which names they use.
 use Rattle.std.proofs.Common.{◌≡◌, ℕ, ◌≤◌, Bool, true, List, [], ◌∷◌, Option, Some, subst}
 use Rattle.std.specs.List.{AllByRecursion, AllZip}
+use Rattle.xd_doc.proofs.Lists.{all_more, all_append}
 use Rattle.xd_syntax.specs.Tree.{Tree, uses_only}
 use Rattle.xd_syntax.specs.TypeText.{depth}
 use Rattle.xd_syntax.specs.ShallowTables.{IsShallow}
@@ -12,10 +13,8 @@ use Rattle.xd_syntax.specs.Kept.{ProgramTable, program_tree}
 use Rattle.xd_auto.specs.declared.auto.State.{State}
 use Rattle.xd_auto.specs.Automaton.{Automaton}
 use Rattle.xd_meaning.specs.Consistent.{Goal}
-use Rattle.xd_continuations.proofs.MoveLemmas.{all_append}
 use Rattle.xd_goals.specs.Rows.{GoalRow, TableView, row_at}
 use Rattle.xd_goals.specs.Facts.{FactsOnAutomaton}
-use Rattle.xd_rules.proofs.Lists.{all_map}
 use Rattle.xd_goals.proofs.Verdicts.{choices_keep}
 use Rattle.xd_heads.specs.CellsView.{CellsView}
 use Rattle.xd_heads.specs.Mirrors.{Mirrors, continuation_of}
@@ -77,7 +76,7 @@ module _ (p : ProgramTable) (c : CellsView) (a : Automaton) (t : TableView) (m :
 
   rows_named : IsPassing C test (row_at t.rows start) → AllByRecursion (λ g. IsPassing C test (row_at t.rows g)) order
   rows_named h =
-      all_map (λ g. row_passes C test (row_at t.rows g) ≡ true) (λ g. IsPassing C test (row_at t.rows g)) order (λ g e. row_passes-is C test (row_at t.rows g) e)
+      all_more (λ g. row_passes C test (row_at t.rows g) ≡ true) (λ g. IsPassing C test (row_at t.rows g)) order (λ g e. row_passes-is C test (row_at t.rows g) e)
       (reached.only (λ g. row_passes C test (row_at t.rows g)) (row_passes-from C test (row_at t.rows start) h)
       (λ g e. passing_leads (names_of (program_tree p)) a C m.moves test (program_heads_named (program_tree p) sound) t g (row_at t.rows g).choices (choices_keep a t stands g) e))
 

@@ -2,8 +2,8 @@
 use Rattle.std.proofs.Common.{◌≡◌, ℕ, zero, suc, ◌+◌, ◌<◌, ◌≤◌, Bool, true, List, [], ◌∷◌, ◌++◌, length, get_or, set, take, Some, ⊎_elim, refl, sym, ap, subst, ◌∙◌, arith, length-append, length-set, nat_eq, eq-eqb, eqb-true}
 use Rattle.std.specs.List.{AllByRecursion, slice_get}
 use Rattle.std.proofs.lemmas.Bool.{cases_lt, cases_eq}
-use Rattle.std.proofs.lemmas.List.{take_more}
 use Rattle.std.proofs.lemmas.Option.{slice_get_within, slice_get-get_or}
+use Rattle.xd_doc.proofs.Lists.{there_front, last_at, all_more as all_map, all_append, all_taken, all_parts}
 use Rattle.xd_rules.specs.Rules.{ChoiceTree, ContentLeaf, RestLeaf, SplitOn, AllLeaves}
 use Rattle.xd_rules.proofs.Members.{get-one_of}
 use Rattle.xd_goals.specs.Rows.{TableView, row_at}
@@ -11,7 +11,7 @@ use Rattle.xd_goals.specs.Trees.{StandsAt}
 use Rattle.xd_goals.specs.Reached.{HasTreeWithin}
 use Rattle.xd_goals.specs.declared.table.Choice.{Choice}
 use Rattle.xd_goals.specs.declared.table.ChoiceNode.{ChoiceNode}
-use Rattle.xd_rules.proofs.Lists.{all_map, all_push, slice_get-append, slice_get-push_cases, slice_get-seam}
+use Rattle.xd_rules.proofs.Lists.{slice_get-push_cases}
 use Rattle.xd_goals.proofs.Trees.{AllLeaves-map}
 use Rattle.xd_proof.specs.declared.steps.Step.{Step}
 use Rattle.xd_proof.specs.declared.steps.Step.TheVariants.{Content, Rest, Split}
@@ -54,7 +54,7 @@ pub meets-one : (order numbers : List ℕ) (g : ℕ) (order2 numbers2 : List ℕ
 meets-one order numbers g order2 numbers2 none e f = record {
   sized = ap length f ∙ length-set numbers g (length order2);
   kept = λ h k x. ap (λ (ns : List ℕ). slice_get ns h) f ∙ get-set_other numbers g h (length order2) (unlike h k x) ∙ x;
-  front = λ k h x. ap (λ (os : List ℕ). slice_get os k) e ∙ slice_get-append order (g ∷ []) k h x;
+  front = λ k h x. ap (λ (os : List ℕ). slice_get os k) e ∙ there_front order (g ∷ []) k h x;
   numbered = numbered;
   fewer = (let c = count in let u = unmet-set numbers g (length order) none in let v = ap unmet (f ∙ ap (set numbers g) count) in omega arith);
 }
@@ -84,8 +84,8 @@ meets-one order numbers g order2 numbers2 none e f = record {
             let z : length order2 ≡ suc k = cc in
             let n = count in
             let w : k ≡ length order = omega arith in
-            ap (λ (os : List ℕ). slice_get os k) e ∙ ap (slice_get (order ++ g ∷ [])) w ∙ slice_get-seam order g ∙ ap Some (sym q))
-            (λ ne. ap (λ (os : List ℕ). slice_get os k) e ∙ slice_get-append order (g ∷ []) k h
+            ap (λ (os : List ℕ). slice_get os k) e ∙ ap (slice_get (order ++ g ∷ [])) w ∙ last_at order g ∙ ap Some (sym q))
+            (λ ne. ap (λ (os : List ℕ). slice_get os k) e ∙ there_front order (g ∷ []) k h
             (a.from h k (sym (get-set_other numbers g h (length order2) ne) ∙ ap (λ (ns : List ℕ). slice_get ns h) (sym f) ∙ x)))
             (cases_eq h g)
 
@@ -113,18 +113,10 @@ steps-kept P Q f steps h = all_map (IsStepTo P) (IsStepTo Q) steps one h
     one (Rest g) k = f g k
     one (Split j) k = tt
 
-all_both : {X : Type 0} (P : X → Type 0) (xs ys : List X) → AllByRecursion P xs → AllByRecursion P ys → AllByRecursion P (xs ++ ys)
-all_both P [] ys h k = k
-all_both P (x ∷ xs) ys h k = (h.0, all_both P xs ys h.1 k)
-
-all_parts : {X : Type 0} (P : X → Type 0) (xs ys : List X) → AllByRecursion P (xs ++ ys) → AllByRecursion P xs × AllByRecursion P ys
-all_parts P [] ys h = (tt, h)
-all_parts P (x ∷ xs) ys h = let i = all_parts P xs ys h.1 in ((h.0, i.0), i.1)
-
 pub tree-steps : (P : ℕ → Type 0) (tree : ChoiceTree) → AllLeaves P tree → AllByRecursion (IsStepTo P) (table_steps tree)
 tree-steps P (ContentLeaf g) h = (h, tt)
 tree-steps P (RestLeaf g) h = (h, tt)
-tree-steps P (SplitOn j a b) h = (tt, all_both (IsStepTo P) (table_steps a) (table_steps b) (tree-steps P a h.0) (tree-steps P b h.1))
+tree-steps P (SplitOn j a b) h = (tt, all_append (IsStepTo P) (table_steps a) (table_steps b) (tree-steps P a h.0) (tree-steps P b h.1))
 
 pub steps-tree : (P : ℕ → Type 0) (tree : ChoiceTree) → AllByRecursion (IsStepTo P) (table_steps tree) → AllLeaves P tree
 steps-tree P (ContentLeaf g) h = h.0
@@ -145,10 +137,6 @@ steps-within nodes n k steps t e = subst (AllByRecursion (IsStepTo (λ g. g < n)
 pub leads-kept : (nodes : List ChoiceNode) (P Q : ℕ → Type 0) → ((g : ℕ) → P g → Q g) → (ks : List Choice) → AllByRecursion (LeadsTo nodes P) ks → AllByRecursion (LeadsTo nodes Q) ks
 leads-kept nodes P Q f ks h = all_map (LeadsTo nodes P) (LeadsTo nodes Q) ks (λ k x tree s. AllLeaves-map P Q f tree (x tree s)) h
 
--- one more of a front
-pub all_more : {X : Type 0} (P : X → Type 0) (xs : List X) (i : ℕ) (x : X) → i < length xs → x ≡ get_or xs i x → AllByRecursion P (take i xs) → P x → AllByRecursion P (take (i + 1) xs)
-all_more {X} P xs i x lt e h p = subst (AllByRecursion P) (sym (take_more xs i x lt)) (all_push P (take i xs) (get_or xs i x) h (subst P e p))
-
 pub all_get : {X : Type 0} (P : X → Type 0) (xs : List X) (i : ℕ) (x : X) → i < length xs → x ≡ get_or xs i x → AllByRecursion P xs → P x
 all_get P [] i x lt e h = absurd (omega arith)
 all_get P (y ∷ xs) zero x lt e h = subst P (sym e) h.0
@@ -156,7 +144,7 @@ all_get P (y ∷ xs) (suc i) x lt e h = all_get P xs i x (omega arith) e h.1
 
 -- the same where what stands past the end is given
 pub all_more_by : {X : Type 0} (P : X → Type 0) (xs : List X) (i : ℕ) (d : X) → i < length xs → AllByRecursion P (take i xs) → P (get_or xs i d) → AllByRecursion P (take (i + 1) xs)
-all_more_by {X} P xs i d lt h p = all_more P xs i (get_or xs i d) lt (same xs i lt) h p
+all_more_by {X} P xs i d lt h p = all_taken P xs i (get_or xs i d) lt (same xs i lt) h p
   where
     same : (ys : List X) (n : ℕ) → n < length ys → get_or ys n d ≡ get_or ys n (get_or xs i d)
     same [] n l = absurd (omega arith)

@@ -10,6 +10,7 @@ use Rattle.std.proofs.lemmas.Slice.Eq.{bytes_eq-Decides}
 use Rattle.std.specs.declared.cmp.Ordering.{Ordering}
 use Rattle.std.specs.declared.cmp.Ordering.TheVariants.{Less, Equal, Greater}
 use Rattle.xd_doc.specs.Classes.{is_named}
+use Rattle.xd_doc.proofs.Bools.{or_assoc, or_swap, or_twice}
 use Rattle.xd_syntax.specs.Tree.{Tree, Definitions}
 use Rattle.xd_auto.specs.declared.auto.State.{State}
 use Rattle.xd_auto.specs.declared.auto.LabelMove.{LabelMove}
@@ -73,20 +74,6 @@ pub order_sorted : (ws : List (List ℕ)) → IsStrictlySortedBy R (in_byte_orde
 unfolding IsStrictlySortedBy
 order_sorted [] = tt
 order_sorted (w ∷ ws) = put_sorted w (in_byte_order ws) (order_sorted ws)
-
-or_swap : (a b c : Bool) → (a || (b || c)) ≡ (b || (a || c))
-or_swap true true c = refl
-or_swap true false c = refl
-or_swap false true c = refl
-or_swap false false c = refl
-
-or_twice : (a c : Bool) → (a || c) ≡ (a || (a || c))
-or_twice true c = refl
-or_twice false c = refl
-
-or_assoc : (a b c : Bool) → (a || (b || c)) ≡ ((a || b) || c)
-or_assoc true b c = refl
-or_assoc false b c = refl
 
 put_named : (w l : List ℕ) (vs : List (List ℕ)) → is_named (put_word w vs) l ≡ (pointwise nat_eq w l || is_named vs l)
 put_named w l [] = refl

@@ -5,6 +5,8 @@ use Rattle.std.proofs.lemmas.List.{take_more, length-map}
 use Rattle.std.specs.Option.{is_some}
 use Rattle.std.proofs.lemmas.Bool.{cases_eq}
 use Rattle.std.proofs.lemmas.Option.{slice_get-get_or}
+use Rattle.xd_doc.proofs.Lists.{all_more}
+use Rattle.xd_auto.proofs.Closed.{same_state}
 use Rattle.xd_syntax.specs.Tree.{Tree}
 use Rattle.xd_syntax.specs.Types.{BelongsTo, tree}
 use Rattle.xd_syntax.specs.Table.{Row}
@@ -16,7 +18,7 @@ use Rattle.xd_syntax.specs.declared.types.TypeId.{TypeId}
 use Rattle.xd_auto.specs.declared.auto.State.{State}
 use Rattle.xd_auto.specs.Automaton.{Automaton}
 use Rattle.xd_meaning.specs.Heads.{heads}
-use Rattle.xd_rules.proofs.Lists.{slice_get-push_cases, all_map}
+use Rattle.xd_rules.proofs.Lists.{slice_get-push_cases}
 use Rattle.xd_heads.specs.CellsView.{CellsView}
 use Rattle.xd_heads.specs.Growing.{GrowsTypes}
 use Rattle.xd_heads.specs.HeadList.{head_at, kind_at}
@@ -81,9 +83,6 @@ get-set_other (y ∷ xs) zero (suc j) x ne = refl
 get-set_other (y ∷ xs) (suc i) zero x ne = refl
 get-set_other (y ∷ xs) (suc i) (suc j) x ne = get-set_other xs i j x (λ e. ne (ap suc e))
 
-same_state : (s t : State) → s.number ≡ t.number → s ≡ t
-same_state s t e = ap (λ (n : ℕ). record { number = n }) e
-
 module _ (old new : List (Option Known)) (state : State) (known : Known) (lt : state.number < length old) (e : new ≡ set old state.number (Some known)) where
   pub set_known : (p q : ProgramTable) (c : CellsView) → ((a : Automaton) × Mirrors p c a) → GrowsTypes p q → IsKnown q c state known → AreKnown p c old → AreKnown q c new
   set_known p q c m g k all s x f = ⊎_elim
@@ -120,7 +119,7 @@ none_push p c states states2 e k s known f =
     ⊎_elim (λ x. k s known x) (λ x. absurd (let q = x.1 in cc)) (slice_get-push_cases states None (Some known) s.number (ap (λ (xs : List (Option Known)). slice_get xs s.number) (sym e) ∙ f))
 
 pub has_more : (old new : List (Option Known)) (states : List State) → KeepsKnown old new → AllByRecursion (HasKnown old) states → AllByRecursion (HasKnown new) states
-has_more old new states k h = all_map (HasKnown old) (HasKnown new) states (λ s x. record { known = x.known; kept = k.kept s x.known x.kept }) h
+has_more old new states k h = all_more (HasKnown old) (HasKnown new) states (λ s x. record { known = x.known; kept = k.kept s x.known x.kept }) h
 
 -- one more of several states
 pub learnt_more : (old new : List (Option Known)) (wanted : List State) (i : ℕ) (d : State) → i < length wanted → KeepsKnown old new → AllByRecursion (HasKnown old) (take i wanted) → HasKnown new (get_or wanted i d)
@@ -132,7 +131,7 @@ has_kept old new s k x = record { known = x.known; kept = k.kept s x.known x.kep
 
 pub types_kept : (old new : List (Option Known)) (rows : List GoalRow) → KeepsKnown old new → (gs : List ℕ) → AllByRecursion (λ g. HasTypes old (row_at rows g)) gs → AllByRecursion (λ g. HasTypes new (row_at rows g)) gs
 types_kept old new rows k gs h =
-    all_map (λ g. HasTypes old (row_at rows g)) (λ g. HasTypes new (row_at rows g)) gs (λ g x. record { left = has_kept old new (row_at rows g).left k x.left; rights = has_more old new (row_at rows g).rights k x.rights }) h
+    all_more (λ g. HasTypes old (row_at rows g)) (λ g. HasTypes new (row_at rows g)) gs (λ g x. record { left = has_kept old new (row_at rows g).left k x.left; rights = has_more old new (row_at rows g).rights k x.rights }) h
 
 pub below_kept : (n m : ℕ) (states ss : List State) → m ≡ n → ss ≡ states → AllByRecursion (λ (s : State). s.number < n) states → AllByRecursion (λ (s : State). s.number < m) ss
 below_kept n m states ss e f h = subst (λ (x : List State). AllByRecursion (λ (s : State). s.number < m) x) (sym f) (subst (λ (k : ℕ). AllByRecursion (λ (s : State). s.number < k) states) (sym e) h)

@@ -4,6 +4,7 @@ use Rattle.std.proofs.Common.{◌≡◌, ℕ, zero, suc, Bool, true, false, ◌&
 use Rattle.std.specs.Str.{bytes_eq}
 use Rattle.std.specs.List.{AllByRecursion}
 use Rattle.std.proofs.lemmas.Bool.{and_parts, and_from}
+use Rattle.xd_doc.proofs.Lists.{all_append, append_none_parts}
 use Rattle.xd_syntax.specs.Words.{has_word}
 use Rattle.xd_syntax.specs.Tree.{Tree, Empty, Text, Words, Name, Elem, Seq, Alt, Star, Plus, Opt, Val, Definitions, body, seq_of, uses_only}
 use Rattle.xd_meaning.specs.CanBeEmpty.{can_be_empty}
@@ -15,8 +16,7 @@ use Rattle.xd_syntax.specs.declared.fault.Fault.{Fault}
 use Rattle.xd_syntax.specs.declared.fault.FaultKind.TheVariants.{UnknownType}
 use Rattle.xd_meaning.specs.Heads.{Head, pieces, followed_by, with_behind, heads_by, heads_of_definition, heads_of_name, heads}
 use Rattle.xd_laws.proofs.SoundGuarded.{in_order_none}
-use Rattle.xd_laws.proofs.WordLists.{nothing_both}
-use Rattle.xd_continuations.proofs.MoveLemmas.{all_append, all_cond, all_map}
+use Rattle.xd_continuations.proofs.MoveLemmas.{all_cond, all_map}
 
 -- ---- types
 
@@ -108,10 +108,10 @@ known_named known (Name_at p x) e = go (has_word known x) e
     go false q = absurd (cc)
 known_named known (Elem_at p c T) e = known_named known T e
 known_named known (Seq_at p T U) e =
-    let b = nothing_both (unknown_types known T) (unknown_types known U) e in
+    let b = append_none_parts (unknown_types known T) (unknown_types known U) e in
     and_from (uses_only known (unplaced T)) (uses_only known (unplaced U)) (known_named known T b.0) (known_named known U b.1)
 known_named known (Alt_at p T U) e =
-    let b = nothing_both (unknown_types known T) (unknown_types known U) e in
+    let b = append_none_parts (unknown_types known T) (unknown_types known U) e in
     and_from (uses_only known (unplaced T)) (uses_only known (unplaced U)) (known_named known T b.0) (known_named known U b.1)
 known_named known (Star_at p T) e = known_named known T e
 known_named known (Plus_at p T) e = known_named known T e
@@ -124,14 +124,14 @@ definitions_named P s =
     let types : List Fault = flat_map (λ (t : TypeDefinition). unknown_types (known_types P) t.body) P.types in
     let all : List Fault = flat_map (function_faults P) P.functions in
     let listed = in_order_none (duplicate_names P ++ types ++ all) s.names in
-    let none = (nothing_both (duplicate_names P) types (nothing_both (duplicate_names P ++ types) all listed).0).1 in
+    let none = (append_none_parts (duplicate_names P) types (append_none_parts (duplicate_names P ++ types) all listed).0).1 in
     (refl, each P.types none)
   where
     each : (ts : List TypeDefinition) → flat_map (λ (t : TypeDefinition). unknown_types (known_types P) t.body) ts ≡ []
         → AllByRecursion (λ (d : List ℕ × Tree). uses_only (known_types P) d.1 ≡ true) (map (λ (t : TypeDefinition). (t.name, unplaced t.body)) ts)
     each [] e = tt
     each (t ∷ ts) e =
-        let b = nothing_both (unknown_types (known_types P) t.body) (flat_map (λ (u : TypeDefinition). unknown_types (known_types P) u.body) ts) e in
+        let b = append_none_parts (unknown_types (known_types P) t.body) (flat_map (λ (u : TypeDefinition). unknown_types (known_types P) u.body) ts) e in
         (known_named (known_types P) t.body b.0, each ts b.1)
 
 -- and so do the heads of a type that does

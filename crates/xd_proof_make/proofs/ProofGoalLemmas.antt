@@ -2,7 +2,8 @@
 use Rattle.std.proofs.Common.{◌≡◌, ℕ, zero, suc, ◌+◌, ◌^◌, ◌<◌, ◌≤◌, Bool, true, false, ◌||◌, List, [], ◌∷◌, ◌++◌, map, length, get_or, take, Option, Some, None, Bor, refl, sym, ap, subst, ◌∙◌, arith}
 use Rattle.std.specs.List.{AllByRecursion, AllZip, flat_map, list_any}
 use Rattle.std.proofs.lemmas.List.{map-append, take_more}
-use Rattle.std.proofs.lemmas.Option.{slice_get_within}
+use Rattle.xd_doc.proofs.Lists.{zip_long, length-mapped}
+use Rattle.xd_goals.proofs.IsTreeBySortLemmas.{head_within}
 use Rattle.xd_syntax.specs.Tree.{Tree, Definitions}
 use Rattle.xd_meaning.specs.CanBeEmpty.{can_be_empty}
 use Rattle.xd_syntax.specs.Program.{names_of}
@@ -37,7 +38,7 @@ use Rattle.xd_proof_make.specs.Known.{IsKnown, AreKnown, HasKnown, IsIdOf, known
 use Rattle.xd_proof_make.specs.Made.{CanWrite, IsEmptyRight, IsGoalMade}
 use Rattle.xd_proof_make.specs.declared.places.Place.{Place}
 use Rattle.xd_proof_make.specs.declared.states.Known.{Known}
-use Rattle.xd_proof_make.proofs.AreHeadMovesLemmas.{places_renumber, places_heads, places_of_types, new_numbers-length, zip_length}
+use Rattle.xd_proof_make.proofs.AreHeadMovesLemmas.{places_renumber, places_heads, places_of_types, new_numbers-length}
 use Rattle.xd_proof_make.proofs.IsNamedLemmas.{names_written}
 use Rattle.xd_proof_make.proofs.CaseOrderLemmas.{cut_at, wanted_above, wanted_below, wanted-append, ordered, AreCases}
 
@@ -94,10 +95,6 @@ typed_all p c states k (s ∷ ss) h = one (typed_all p c states k ss h.1)
 
 -- ---- the goal
 
-length_map : {X Y : Type 0} (f : X → Y) (xs : List X) → length (map f xs) ≡ length xs
-length_map f [] = refl
-length_map f (x ∷ xs) = ap suc (length_map f xs)
-
 module _ (p : ProgramTable) (c : CellsView) (a : Automaton) (nodes : List ChoiceNode) (states : List (Option Known)) (numbers places : List ℕ) (row : GoalRow) (made : ProofGoal) (known : Known) (elements : ℕ)
     (m : Mirrors p c a) (k : AreKnown p c states) (kept : known_at states row.left ≡ Some (Some known)) (rights : AllByRecursion (HasKnown states) row.rights) (begun : IsBegun a (claim_of row) row.choices)
     (pl : places ≡ all_places 1 (map (sorts_at states) row.rights)) (el : elements ≡ length (moves_at a row.left).labels)
@@ -125,7 +122,7 @@ module _ (p : ProgramTable) (c : CellsView) (a : Automaton) (nodes : List Choice
 
   keys : (map choice_key cases.front ≡ rules.wanted_cases begun.named 1 elements_of) × (map choice_key cases.back ≡ rules.wanted_cases begun.named (elements + 1) texts_of)
   keys =
-      let n = length_map label_head (moves_at a row.left).labels in
+      let n = length-mapped label_head (moves_at a row.left).labels in
       cut_at (elements + 1) row.choices cases.front cases.back (rules.wanted_cases begun.named 1 elements_of) (rules.wanted_cases begun.named (elements + 1) texts_of) cases.cut
       (wanted_below begun.named (elements + 1) 1 elements_of (omega arith)) (wanted_above begun.named (elements + 1) (elements + 1) texts_of (omega arith))
       (begun.complete ∙ wanted-append begun.named 1 (elements + 1) elements_of texts_of (omega arith))
@@ -136,7 +133,7 @@ module _ (p : ProgramTable) (c : CellsView) (a : Automaton) (nodes : List Choice
       (subst (λ (ss : List Bool). AreOrdered nodes places numbers ss 1 1 (elements + 1) cases.front cases.back cases.cases) x.sorts cases.ordered)
       keys.0 keys.1
       (λ y h. subst (IsOneOf y) (sym (cases.cut).same) (one_of-append_left y cases.front cases.back h)) (λ y h. subst (IsOneOf y) (sym (cases.cut).same) (one_of-append_right y cases.front cases.back h))
-      [] (record { same = refl; count = refl }) [] texts_of (record { same = refl; count = refl }) elements_of (record { same = refl; count = (let n = length_map label_head (moves_at a row.left).labels in omega arith) })
+      [] (record { same = refl; count = refl }) [] texts_of (record { same = refl; count = refl }) elements_of (record { same = refl; count = (let n = length-mapped label_head (moves_at a row.left).labels in omega arith) })
 
   written : IsEmptyRight a row.left row.rights made.empty_right → IsWritten E a C nodes (number_in numbers) row goal
   written empty = record {
@@ -156,10 +153,10 @@ module _ (p : ProgramTable) (c : CellsView) (a : Automaton) (nodes : List Choice
     is = record { left = subst (λ (i : TypeId). IsTypeAt p.types x.type_ i) (sym left) x.there; rights = r.ids (made.rights).items ids; empty_right = refl; cases = cases.read };
     written = written empty;
     line = line;
-    fit = record { fits = (let n = zip_length (IsIdOf states) (made.rights).items row.rights ids in omega (arith, line, few_rights, few_cases, n)) };
+    fit = record { fits = (let n = zip_long (IsIdOf states) (made.rights).items row.rights ids in omega (arith, line, few_rights, few_cases, n)) };
     small = record {
-      rights = subst (λ (n : ℕ). n < 10 ^ 18) (zip_length (λ (s : State) (T : Tree). C s ≡ Some T) row.rights r.types r.typed) few_rights;
-      on_left = subst (λ (n : ℕ). n < 10 ^ 18) (ap length x.sorts ∙ length_map (λ (h : Head). is_text h.kind) (heads E x.type_)) x.few;
+      rights = subst (λ (n : ℕ). n < 10 ^ 18) (zip_long (λ (s : State) (T : Tree). C s ≡ Some T) row.rights r.types r.typed) few_rights;
+      on_left = subst (λ (n : ℕ). n < 10 ^ 18) (ap length x.sorts ∙ length-mapped (λ (h : Head). is_text h.kind) (heads E x.type_)) x.few;
       on_right = subst (λ (n : ℕ). n < 10 ^ 18) (ap length (pl ∙ ap (all_places 1) r.sorts) ∙ places_of_types E 1 r.types) few_places;
       atoms = cases.atoms;
     };
@@ -170,10 +167,6 @@ module _ (p : ProgramTable) (c : CellsView) (a : Automaton) (nodes : List Choice
 leaf_within : (rows : List GoalRow) (g : ℕ) (left : State) (allowed : List State) → rules.LeafKeeps (claim_at rows) g left allowed → g < length rows
 leaf_within rows g left allowed k = (claim_within rows g k.claim k.found).0
 
-number_within : (hs : List (table.Head State)) (j : ℕ) (h : table.Head State) → rules.head_number hs j ≡ Some h → (0 < j) × (j ≤ length hs)
-number_within hs zero h e = absurd (cc)
-number_within hs (suc j) h e = let l = slice_get_within hs j h e in (omega arith, omega arith)
-
 tree_leaves : (rows : List GoalRow) (h : table.Head State) (atom : TableAtom) (rs : List (table.Head State)) (tree : rules.ChoiceTree) (cs ss : List State) (seen : List ℕ) → rules.TreeKeeps (claim_at rows) h atom rs tree cs ss seen → rules.AllLeaves (λ g. g < length rows) tree
 tree_leaves rows h atom rs (rules.ContentLeaf g) cs ss seen k = leaf_within rows g h.content cs k
 tree_leaves rows h atom rs (rules.RestLeaf g) cs ss seen k = leaf_within rows g h.rest ss k
@@ -183,7 +176,7 @@ tree_splits : (rows : List GoalRow) (h : table.Head State) (atom : TableAtom) (r
 tree_splits rows h atom rs (rules.ContentLeaf g) cs ss seen k = tt
 tree_splits rows h atom rs (rules.RestLeaf g) cs ss seen k = tt
 tree_splits rows h atom rs (rules.SplitOn j t u) cs ss seen k =
-    let n = number_within rs j k.0 k.1 in
+    let n = head_within rs j k.0 k.1 in
     (n.0, n.1, tree_splits rows h atom rs t ((k.0).content ∷ cs) ss (j ∷ seen) k.4, tree_splits rows h atom rs u cs ((k.0).rest ∷ ss) (j ∷ seen) k.5)
 
 case_writable : (rows : List GoalRow) (h : table.Head State) (atom : TableAtom) (rs : List (table.Head State)) (tree : rules.ChoiceTree) → rules.CaseKeeps (claim_at rows) h atom rs tree
@@ -236,7 +229,7 @@ module _ (states : List (Option Known)) (rights : List State) (sorts given : Lis
   pub few_kept : (row : List State) → rights ≡ row → AreFew given → AreFew row
   few_kept row e few =
       subst (λ (n : ℕ). n < 10 ^ 18)
-      (ap length same ∙ sym (length_map (λ (b : Bor (List Bool)). b.now) sorts) ∙ ap length found ∙ length_map (sorts_at states) rights ∙ ap length e) few
+      (ap length same ∙ sym (length-mapped (λ (b : Bor (List Bool)). b.now) sorts) ∙ ap length found ∙ length-mapped (sorts_at states) rights ∙ ap length e) few
 
 pub zip_more : {B : Type 0} (R : ℕ → B → Type 0) (xs : List ℕ) (i : ℕ) (ys ys2 : List B) (y : B) → i < length xs → AllZip R (take i xs) ys → R (get_or xs i 0) y → ys2 ≡ ys ++ y ∷ [] → AllZip R (take (i + 1) xs) ys2
 zip_more {B} R xs i ys ys2 y lt z r e =

@@ -1,9 +1,12 @@
 -- The goals that are reached, written, are a proof.
-use Rattle.std.proofs.Common.{◌≡◌, ℕ, zero, suc, ◌^◌, ◌<◌, ◌≤◌, Bool, true, false, ◌&&◌, List, [], ◌∷◌, length, Option, Some, inl, inr, ⊎_elim, refl, sym, ap, subst, ◌∙◌}
+use Rattle.std.proofs.Common.{◌≡◌, ℕ, zero, suc, ◌^◌, ◌<◌, ◌≤◌, Bool, true, ◌&&◌, List, [], ◌∷◌, length, Option, Some, inl, inr, ⊎_elim, refl, sym, ap, subst, ◌∙◌}
 use Rattle.std.specs.List.{AllByRecursion, AllZip, slice_get}
-use Rattle.std.proofs.lemmas.Bool.{cases_lt}
+use Rattle.std.proofs.lemmas.Bool.{cases_lt, and_from}
 use Rattle.std.proofs.lemmas.List.{length-map}
 use Rattle.std.proofs.lemmas.Option.{get_or_from_slice_get, slice_get_within}
+use Rattle.xd_doc.proofs.Bools.{and_parts}
+use Rattle.xd_doc.proofs.Lists.{all_more, zip_long}
+use Rattle.xd_doc.proofs.Numbers.{le_lt}
 use Rattle.xd_syntax.specs.Tree.{Tree, Definitions}
 use Rattle.xd_syntax.specs.Program.{names_of}
 use Rattle.xd_syntax.specs.RecursionFaults.{IsSound}
@@ -26,7 +29,6 @@ use Rattle.xd_goals.specs.declared.table.Choice.{Choice}
 use Rattle.xd_goals.specs.declared.table.ChoiceNode.{ChoiceNode}
 use Rattle.xd_goals.specs.declared.table.Standing.TheVariants.{Holds}
 use Rattle.xd_goals.proofs.GrowsByLemmas.{past_is_new}
-use Rattle.xd_rules.proofs.Lists.{all_map}
 use Rattle.xd_goals.proofs.Facts.{StandsSomewhere, all_both, choices_stand}
 use Rattle.xd_goals.proofs.Verdicts.{choices_keep}
 use Rattle.xd_heads.specs.CellsView.{CellsView}
@@ -44,8 +46,7 @@ use Rattle.xd_proof_make.specs.Known.{AreKnown}
 use Rattle.xd_proof_make.specs.Made.{CanWrite, HasTypes, IsBetween, IsGoalMade, IsOfTypes, IsProofOf, IsTypedRow}
 use Rattle.xd_proof_make.specs.declared.states.Known.{Known}
 use Rattle.xd_proof_make.proofs.WrittenGoalLemmas.{goal_keeps}
-use Rattle.xd_proof_make.proofs.AreHeadMovesLemmas.{zip_length}
-use Rattle.xd_proof_make.proofs.SmallNumbers.{some_there, less_by, goals_writable, distinct_below, some_types}
+use Rattle.xd_proof_make.proofs.SmallNumbers.{some_there, goals_writable, distinct_below, some_types}
 use Rattle.xd_proof_make.proofs.ProofGoalLemmas.{all_writable}
 use Rattle.xd_proof_make.proofs.UsesDefinedLemmas.{typed_row, row_typed-is, row_typed-from, typed_leads}
 use Rattle.xd_proof_make.proofs.GoalTypes.{all_named, all_shallow}
@@ -139,10 +140,10 @@ module _ (p : ProgramTable) (c : CellsView) (a : Automaton) (t : TableView) (sta
   between (g ∷ xs) (y ∷ ys) w = (record { left = (w.0).left; rights = (w.0).rights }, between xs ys w.1)
 
   few : AreFew gs
-  few = subst (λ (n : ℕ). n < 10 ^ 18) (zip_length (IsLinedAt p.types) made ls.lined ls.at ∙ sym (length-map ls.lined (λ (l : Lined). l.goal))) few_goals
+  few = subst (λ (n : ℕ). n < 10 ^ 18) (zip_long (IsLinedAt p.types) made ls.lined ls.at ∙ sym (length-map ls.lined (λ (l : Lined). l.goal))) few_goals
 
   rows_below : AllByRecursion (λ g. IsRowBelow (length a) (row_at t.rows g)) order
-  rows_below = all_map (IsFit a t c) (λ g. IsRowBelow (length a) (row_at t.rows g)) order (λ g x. x.below) fit
+  rows_below = all_more (IsFit a t c) (λ g. IsRowBelow (length a) (row_at t.rows g)) order (λ g x. x.below) fit
 
   pub made_proof : IsProofOf p c t start made
   made_proof =
@@ -158,7 +159,7 @@ module _ (p : ProgramTable) (c : CellsView) (a : Automaton) (t : TableView) (sta
         goal_count = record { least = some_there gs y.0 first; most = few };
         type_count = record {
           least = some_types gs y.0 first;
-          most = less_by (length (distinct_types gs)) (length states) (10 ^ 18)
+          most = le_lt (length (distinct_types gs)) (length states) (10 ^ 18)
               (subst (λ (n : ℕ). length (distinct_types gs) ≤ n) (sym sized) (distinct_below C (length a) t.rows order gs (between order gs ls.written) rows_below)) few_states;
         };
         rows = order;
@@ -177,13 +178,6 @@ module _ (p : ProgramTable) (c : CellsView) (a : Automaton) (t : TableView) (sta
 pub holds_there : (t : TableView) (g : ℕ) → (row_at t.rows g).standing ≡ Holds → g < length t.rows
 holds_there t g e = ⊎_elim (λ lt. lt) (λ ge. let w = (past_is_new t.rows g ge).standing in absurd (cc)) (cases_lt g (length t.rows))
 
-both : (x y : Bool) → (x && y) ≡ true → (x ≡ true) × (y ≡ true)
-both true y e = (refl, e)
-both false y e = absurd (cc)
-
-join : (x y : Bool) → x ≡ true → y ≡ true → (x && y) ≡ true
-join x y e f = rw (e, f) refl
-
 all_leaves : (P Q R : ℕ → Type 0) → ((g : ℕ) → P g → Q g → R g) → (tree : rules.ChoiceTree) → rules.AllLeaves P tree → rules.AllLeaves Q tree → rules.AllLeaves R tree
 all_leaves P Q R f (rules.ContentLeaf g) h k = f g h k
 all_leaves P Q R f (rules.RestLeaf g) h k = f g h k
@@ -192,32 +186,32 @@ all_leaves P Q R f (rules.SplitOn j t u) h k = (all_leaves P Q R f t h.0 k.0, al
 pub all_fit : (p : ProgramTable) (c : CellsView) (a : Automaton) (t : TableView) (start : ℕ) (order numbers : List ℕ) → Mirrors p c a → FactsOnAutomaton a t → IsSettled t start → IsOfTypes c (row_at t.rows start)
     → AreReached t start order numbers → AllByRecursion (IsFit a t c) order
 all_fit p c a t start order numbers m stands s types reached =
-    all_map (λ g. passes g ≡ true) (IsFit a t c) order fit
-    (reached.only passes (join (is_marked s.marks start) (typed_row p c (row_at t.rows start)) s.start (row_typed-from p c (row_at t.rows start) types)) closed)
+    all_more (λ g. passes g ≡ true) (IsFit a t c) order fit
+    (reached.only passes (and_from (is_marked s.marks start) (typed_row p c (row_at t.rows start)) s.start (row_typed-from p c (row_at t.rows start) types)) closed)
   where
     passes : ℕ → Bool
     passes g = is_marked s.marks g && typed_row p c (row_at t.rows g)
 
     closed : (g : ℕ) → passes g ≡ true → AllByRecursion (LeadsTo t.nodes (λ h. passes h ≡ true)) (row_at t.rows g).choices
     closed g e =
-        let b = both (is_marked s.marks g) (typed_row p c (row_at t.rows g)) e in
+        let b = and_parts (is_marked s.marks g) (typed_row p c (row_at t.rows g)) e in
         all_both (LeadsToMarked t.nodes s.marks) (LeadsTo t.nodes (λ i. typed_row p c (row_at t.rows i) ≡ true)) (LeadsTo t.nodes (λ h. passes h ≡ true)) (row_at t.rows g).choices
-        (λ k x y tree u. all_leaves (λ i. is_marked s.marks i ≡ true) (λ i. typed_row p c (row_at t.rows i) ≡ true) (λ h. passes h ≡ true) (λ i v w. join (is_marked s.marks i) (typed_row p c (row_at t.rows i)) v w) tree (x tree u) (y tree u))
+        (λ k x y tree u. all_leaves (λ i. is_marked s.marks i ≡ true) (λ i. typed_row p c (row_at t.rows i) ≡ true) (λ h. passes h ≡ true) (λ i v w. and_from (is_marked s.marks i) (typed_row p c (row_at t.rows i)) v w) tree (x tree u) (y tree u))
         (s.leads g b.0) (typed_leads p c a m t g (row_at t.rows g).choices (choices_keep a t stands g) b.1)
 
     fit : (g : ℕ) → passes g ≡ true → IsFit a t c g
     fit g e =
-        let b = both (is_marked s.marks g) (typed_row p c (row_at t.rows g)) e in
+        let b = and_parts (is_marked s.marks g) (typed_row p c (row_at t.rows g)) e in
         let h = s.holds g b.0 in
         let lt = holds_there t g h in
         record { there = lt; begun = (stands.holds g h).begun; below = (stands.states).each g lt; types = row_typed-is p c (row_at t.rows g) b.1 }
 
 pub all_there : (a : Automaton) (t : TableView) (c : CellsView) (order : List ℕ) → AllByRecursion (IsFit a t c) order → AllByRecursion (λ g. g < length t.rows) order
-all_there a t c order h = all_map (IsFit a t c) (λ g. g < length t.rows) order (λ g x. x.there) h
+all_there a t c order h = all_more (IsFit a t c) (λ g. g < length t.rows) order (λ g x. x.there) h
 
 pub all_typed_rows : (a : Automaton) (t : TableView) (c : CellsView) (order : List ℕ) (n : ℕ) → n ≡ length a → AllByRecursion (IsFit a t c) order → AllByRecursion (λ g. IsTypedRow c n (row_at t.rows g)) order
 all_typed_rows a t c order n e h =
-    all_map (IsFit a t c) (λ g. IsTypedRow c n (row_at t.rows g)) order
+    all_more (IsFit a t c) (λ g. IsTypedRow c n (row_at t.rows g)) order
     (λ g x. record {
       types = x.types;
       left_there = subst (λ (k : ℕ). (row_at t.rows g).left.number < k) (sym e) (x.below).left;

@@ -2,6 +2,7 @@
 use Rattle.std.proofs.Common.{◌≡◌, ℕ, zero, suc, ◌+◌, ◌<◌, ◌≤◌, Bool, true, false, List, [], ◌∷◌, ◌++◌, map, length, get_or, take, drop, inl, inr, ⊎_elim, refl, sym, ap, subst, ◌∙◌, arith, append_assoc, append-nil}
 use Rattle.std.specs.List.{AllByRecursion, AllZip, slice_get}
 use Rattle.std.proofs.lemmas.List.{take_more, map-append}
+use Rattle.xd_doc.proofs.Lists.{all_append}
 use Rattle.xd_rules.specs.Rules.{ChoiceTree, ContentLeaf, RestLeaf, SplitOn, AllLeaves}
 use Rattle.xd_rules.specs.Members.{IsOneOf}
 use Rattle.xd_rules.proofs.Members.{one_of-append_left, one_of-append_right, one_of-all}
@@ -21,6 +22,7 @@ use Rattle.xd_proof_make.specs.Written.{written_atom, written_tree}
 use Rattle.xd_proof_make.specs.Places.{place_in}
 use Rattle.xd_proof_make.specs.Met.{IsMet, number_in}
 use Rattle.xd_proof_make.specs.Ordered.{IsCut, IsCaseOf, AreOrdered, AreWrittenCases, IsMadeOf, SplitsWithin, IsWritable, IsStepWithin, written_step}
+use Rattle.xd_proof_make.proofs.AreHeadMovesLemmas.{zip_append}
 
 -- ---- cuts
 
@@ -34,10 +36,6 @@ written-steps places numbers (SplitOn j a b) =
     (map-append (written_step places numbers) (table_steps a) (table_steps b)
     ∙ (ap (λ (xs : List Step). xs ++ map (written_step places numbers) (table_steps b)) (written-steps places numbers a)
     ∙ ap (λ (xs : List Step). steps_of (written_tree (place_in places) (number_in numbers) a) ++ xs) (written-steps places numbers b)))
-
-all_append : {X : Type 0} (P : X → Type 0) (xs ys : List X) → AllByRecursion P xs → AllByRecursion P ys → AllByRecursion P (xs ++ ys)
-all_append P [] ys h k = k
-all_append P (x ∷ xs) ys h k = (h.0, all_append P xs ys h.1 k)
 
 steps_within : (goals heads : ℕ) (tree : ChoiceTree) → AllLeaves (λ g. g < goals) tree → SplitsWithin heads tree → AllByRecursion (IsStepWithin goals heads) (table_steps tree)
 steps_within goals heads (ContentLeaf g) h k = (h, tt)
@@ -60,12 +58,6 @@ made_case nodes places numbers goals heads n k made steps w e h a spelled s = re
 }
 
 -- ---- cases of one head
-
-zip_append : {A B : Type 0} (R : A → B → Type 0) (xs us : List A) (ys vs : List B) → AllZip R xs ys → AllZip R us vs → AllZip R (xs ++ us) (ys ++ vs)
-zip_append R [] us [] vs h k = k
-zip_append R [] us (y ∷ ys) vs h k = absurd h
-zip_append R (x ∷ xs) us [] vs h k = absurd h
-zip_append R (x ∷ xs) us (y ∷ ys) vs h k = (h.0, zip_append R xs us ys vs h.1 k)
 
 pub more_made : (nodes : List ChoiceNode) (places numbers : List ℕ) (n : ℕ) (ks : List Choice) (i : ℕ) (k : Choice) (old cases cases2 : List ReadCase) (made : ReadCase) → i < length ks → k ≡ get_or ks i k
     → (more : List ReadCase) × (cases ≡ old ++ more) × AllZip (IsMadeOf nodes places numbers n) (take i ks) more → IsMadeOf nodes places numbers n k made → cases2 ≡ cases ++ made ∷ []

@@ -3,6 +3,7 @@
 use Rattle.std.proofs.Common.{◌≡◌, ℕ, zero, suc, ◌<◌, ◌≤◌, ◌^◌, Bool, true, false, not, cond, filter, List, [], ◌∷◌, ◌++◌, length, Option, Some, None, inl, inr, ⊎_elim, refl, sym, ap, subst, ◌∙◌, arith}
 use Rattle.std.specs.List.{AllByRecursion, AllZip}
 use Rattle.std.proofs.lemmas.Bool.{cases_lt}
+use Rattle.xd_doc.proofs.Numbers.{le_lt}
 use Rattle.xd_syntax.specs.Tree.{Tree, Definitions}
 use Rattle.xd_syntax.specs.Ways.{Among}
 use Rattle.xd_auto.specs.declared.auto.State.{State}
@@ -31,11 +32,8 @@ pub some_there : {A : Type 0} (xs : List A) (x : A) → numbered xs 1 ≡ Some x
 some_there [] x e = absurd (cc)
 some_there (y ∷ xs) x e = omega arith
 
-pub less_by : (n m k : ℕ) → n ≤ m → m < k → n < k
-less_by n m k i j = omega arith
-
 is_number : {A : Type 0} (xs : List A) (n : ℕ) (x : A) → numbered xs n ≡ Some x → AreFew xs → IsNumber n
-is_number xs n x e few = let i = number_within xs n x e in record { least = i.0; most = less_by n (length xs) (10 ^ 18) i.1 few }
+is_number xs n x e few = let i = number_within xs n x e in record { least = i.0; most = le_lt n (length xs) (10 ^ 18) i.1 few }
 
 -- ---- the numbers of a goal
 

@@ -3,6 +3,7 @@
 use Rattle.std.proofs.Common.{◌≡◌, ℕ, Bool, true, false, ◌&&◌, cond, List, [], ◌∷◌, map, Option, Some, None, refl, sym, ap, subst, ◌∙◌}
 use Rattle.std.specs.List.{AllByRecursion, filter, flat_map, list_all}
 use Rattle.std.proofs.lemmas.Bool.{and_parts, and_from}
+use Rattle.xd_doc.proofs.Lists.{all_more, all_append}
 use Rattle.xd_syntax.specs.Tree.{Tree, Definitions, seq_of}
 use Rattle.xd_syntax.specs.Program.{names_of}
 use Rattle.xd_syntax.specs.Kept.{ProgramTable, program_tree}
@@ -11,7 +12,6 @@ use Rattle.xd_auto.specs.declared.auto.LabelMove.{LabelMove}
 use Rattle.xd_auto.specs.declared.auto.TextMove.{TextMove}
 use Rattle.xd_auto.specs.Automaton.{Automaton, moves_at}
 use Rattle.xd_meaning.specs.Heads.{Head, heads}
-use Rattle.xd_continuations.proofs.MoveLemmas.{all_append}
 use Rattle.xd_rules.specs.Heads as table
 use Rattle.xd_rules.specs.Rules as rules
 use Rattle.xd_rules.specs.Members.{IsOneOf}
@@ -22,7 +22,6 @@ use Rattle.xd_goals.specs.Rows.{GoalRow, TableView, row_at, claim_of, claim_at}
 use Rattle.xd_goals.specs.Truth as goals
 use Rattle.xd_goals.specs.declared.table.Choice.{Choice}
 use Rattle.xd_goals.proofs.GrowsByLemmas.{claim_within}
-use Rattle.xd_rules.proofs.Lists.{all_map}
 use Rattle.xd_goals.proofs.Trees.{StandsAt-one}
 use Rattle.xd_heads.specs.CellsView.{CellsView}
 use Rattle.xd_moves.specs.Found.{continuation}
@@ -173,13 +172,13 @@ module _ (p : ProgramTable) (c : CellsView) where
   unfolding typed_row
   row_typed-is row e =
       let h = row_passes-is (continuation_of p.types c) any_type_passes row e in
-      record { left = typed_from row.left h.0; rights = all_map (HasPassing (continuation_of p.types c) any_type_passes) (IsTypeState c) row.rights typed_from h.1 }
+      record { left = typed_from row.left h.0; rights = all_more (HasPassing (continuation_of p.types c) any_type_passes) (IsTypeState c) row.rights typed_from h.1 }
 
   pub row_typed-from : (row : GoalRow) → IsOfTypes c row → typed_row p c row ≡ true
   unfolding typed_row
   row_typed-from row h =
       row_passes-from (continuation_of p.types c) any_type_passes row
-      (typed_to row.left h.left, all_map (IsTypeState c) (HasPassing (continuation_of p.types c) any_type_passes) row.rights typed_to h.rights)
+      (typed_to row.left h.left, all_more (IsTypeState c) (HasPassing (continuation_of p.types c) any_type_passes) row.rights typed_to h.rights)
 
 -- a row of states of types leads to such rows
 pub typed_leads : (p : ProgramTable) (c : CellsView) (a : Automaton) → Mirrors p c a → (t : TableView) (g : ℕ) (ks : List Choice) → AllByRecursion (goals.KeepsRules a t (claim_of (row_at t.rows g))) ks → typed_row p c (row_at t.rows g) ≡ true

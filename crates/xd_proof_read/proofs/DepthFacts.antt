@@ -1,6 +1,7 @@
 -- The types of a proof text are no deeper than a text may be nested.
 use Rattle.std.proofs.Common.{◌≡◌, ℕ, zero, suc, ◌+◌, ◌≤◌, arith, List, [], ◌∷◌, ◌++◌, map, length, Some, refl, ap, sym, subst, inl, inr}
 use Rattle.std.specs.List.{AllZip, AllByRecursion}
+use Rattle.xd_doc.proofs.Lists.{all_parts}
 use Rattle.xd_lex.specs.Tokens.{tokens_of}
 use Rattle.xd_syntax.specs.Tree.{Tree}
 use Rattle.xd_syntax.specs.TypeText.{depth}
@@ -10,8 +11,9 @@ use Rattle.xd_syntax.specs.SoundTables.{IsTypeAt}
 use Rattle.xd_syntax.specs.Shallow.{nesting_limit}
 use Rattle.xd_syntax.specs.declared.types.TypeId.{TypeId}
 use Rattle.xd_grammar.specs.declared.grammar.Nonterminal.TheVariants as nonterminals
-use Rattle.xd_parse_trees.specs.Values.{Value, a_tree}
+use Rattle.xd_parse_trees.specs.Values.{a_tree}
 use Rattle.xd_parse_trees.specs.Reading.{Reads}
+use Rattle.xd_parse_trees.proofs.Rows.{one_value}
 use Rattle.xd_parse.proofs.Sure.{sure}
 use Rattle.xd_parse.proofs.Spelled.{read_within}
 use Rattle.xd_parse.proofs.ValueDepthLemmas.{all_within}
@@ -29,13 +31,10 @@ use Rattle.xd_proof_read.specs.Depths.{IsShallowGoal}
 abbrev Shallow : Tree → Type 0
 Shallow T = depth T ≤ nesting_limit
 
-same_value : (v w : Value) → v ∷ [] ≡ w ∷ [] → v ≡ w
-same_value v w e = cc
-
 -- ---- the text of a type
 pub text_shallow : (known : List (List ℕ)) (bytes : List ℕ) (T : Tree) → SpellsType known bytes T → Shallow T
 text_shallow known bytes T s =
-    let r : Reads nonterminals.TypeText (tokens_of bytes) [] (a_tree s.placed) = λ rest w m. (let q = sure ((s.text).spelled).means rest (w ∷ []) m in (q.0, same_value w (a_tree s.placed) q.1)) in
+    let r : Reads nonterminals.TypeText (tokens_of bytes) [] (a_tree s.placed) = λ rest w m. (let q = sure ((s.text).spelled).means rest (w ∷ []) m in (q.0, one_value w (a_tree s.placed) q.1)) in
     let h : AnyWithin nesting_limit 0 s.placed = all_within nesting_limit nonterminals.TypeText (tokens_of bytes) (a_tree s.placed) (read_within nesting_limit nonterminals.TypeText (tokens_of bytes) [] (a_tree s.placed) ((s.text).within).spells r) in
     subst Shallow s.same (let a = h.1 in omega arith)
 
@@ -63,10 +62,6 @@ module _ {A : Type 0} (known : List (List ℕ)) (S : List ℕ → A → Type 0) 
   parts_shallow (l ∷ ls) [] s = absurd s
   parts_shallow (l ∷ ls) (p ∷ ps) s = (part_shallow l p s.0, parts_shallow ls ps s.1)
 
-all_front : {A : Type 0} (P : A → Type 0) (xs ys : List A) → AllByRecursion P (xs ++ ys) → AllByRecursion P xs × AllByRecursion P ys
-all_front P [] ys a = (tt, a)
-all_front P (x ∷ xs) ys a = let r = all_front P xs ys a.1 in ((a.0, r.0), r.1)
-
 rights_shallow : (Us : List Tree) → AllByRecursion (ShallowPart Shallow) (map right_part Us) → AllByRecursion Shallow Us
 rights_shallow [] a = tt
 rights_shallow (U ∷ Us) a = (a.0, rights_shallow Us a.1)
@@ -74,9 +69,9 @@ rights_shallow (U ∷ Us) a = (a.0, rights_shallow Us a.1)
 blocks_shallow : (k : ℕ) (bs : List (Block Tree)) (rest : List (Part Tree)) → AllByRecursion (ShallowPart Shallow) (blocks_from k bs ++ rest) → AllByRecursion ShallowBlock bs
 blocks_shallow k [] rest a = tt
 blocks_shallow k (b ∷ bs) rest a =
-    let r = all_front (ShallowPart Shallow) (blocks_from k (b ∷ bs)) rest a in
-    let q = all_front (ShallowPart Shallow) (block_parts k b) (blocks_from (k + 1) bs) r.0 in
-    let m = all_front (ShallowPart Shallow) (map right_part b.rights) _ (((q.0).1).1) in
+    let r = all_parts (ShallowPart Shallow) (blocks_from k (b ∷ bs)) rest a in
+    let q = all_parts (ShallowPart Shallow) (block_parts k b) (blocks_from (k + 1) bs) r.0 in
+    let m = all_parts (ShallowPart Shallow) (map right_part b.rights) _ (((q.0).1).1) in
     (record { left = ((q.0).1).0; rights = rights_shallow b.rights m.0 }, blocks_shallow (k + 1) bs [] (subst (AllByRecursion (ShallowPart Shallow)) (sym (nil (blocks_from (k + 1) bs))) q.1))
   where
     nil : (xs : List (Part Tree)) → xs ++ [] ≡ xs

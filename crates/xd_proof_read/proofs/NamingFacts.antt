@@ -1,10 +1,11 @@
 -- Types as texts and numbers name them.
-use Rattle.std.proofs.Common.{Vec, Global, ◌≡◌, ℕ, zero, suc, ◌-◌, ◌<◌, ◌≤◌, arith, true, false, List, [], ◌∷◌, map, length, length-append, get_or, Option, Some, None, Result, Ok, Err, refl, ap, sym, subst, ◌∙◌}
+use Rattle.std.proofs.Common.{Vec, Global, ◌≡◌, ℕ, zero, suc, ◌-◌, ◌<◌, ◌≤◌, arith, true, false, List, [], ◌∷◌, map, length, get_or, Option, Some, None, Result, Ok, Err, refl, ap, sym, subst, ◌∙◌}
 use Rattle.std.specs.Prelude.{IfOk, is_some}
 use Rattle.std.specs.Option.{IfSome}
 use Rattle.std.specs.List.{AllByRecursion}
 use Rattle.std.specs.Fmt.{decimal}
 use Rattle.xd_doc.specs.declared.NoMemory.{NoMemory}
+use Rattle.xd_doc.proofs.Lists.{all_get}
 use Rattle.xd_syntax.specs.Tree.{Tree, Empty, uses_only}
 use Rattle.xd_syntax.specs.Table.{Row, KeepsRows, tree_at}
 use Rattle.xd_syntax.specs.Types.{BelongsTo, tree}
@@ -19,6 +20,7 @@ use Rattle.xd_syntax.specs.declared.types.TypeId.{TypeId}
 use Rattle.xd_syntax.proofs.Trees.{tree_kept}
 use Rattle.xd_syntax.proofs.PlacedTrees.{unplaced_at}
 use Rattle.xd_syntax.proofs.ShallowTables.{none_within, within_both}
+use Rattle.xd_syntax.proofs.TableRows.{KeepsRows-length}
 use Rattle.xd_sound.proofs.AdoptLaws.{AddsTypes-trans}
 use Rattle.xd_parse_trees.specs.Means.{IsTypeText}
 use Rattle.xd_parse_trees.proofs.Kept.{KeepsRows-refl}
@@ -77,11 +79,6 @@ numbered_past [] k h = refl
 numbered_past (x ∷ xs) zero h = absurd (omega (arith, h))
 numbered_past (x ∷ xs) (suc k) h = numbered_past xs k (omega (arith, h))
 
-all_at : {A : Type 0} (P : A → Type 0) (xs : List A) (k : ℕ) (d : A) → AllByRecursion P xs → k < length xs → P (get_or xs k d)
-all_at P [] k d a h = absurd (omega (arith, h))
-all_at P (x ∷ xs) zero d a h = a.0
-all_at P (x ∷ xs) (suc k) d a h = all_at P xs k d a.1 (omega (arith, h))
-
 length-tree : (rows : List Row) (ids : List TypeId) → length (map (tree rows) ids) ≡ length ids
 length-tree rows [] = refl
 length-tree rows (i ∷ ids) = ap suc (length-tree rows ids)
@@ -100,7 +97,7 @@ numbered_there rows ids bytes n d a s h =
     let n_is = one_below n (n - 1) (s.number).least refl in (
       tree rows (get_or ids (n - 1) d),
       record { number = n; spelled = s; stands = ap (numbered (map (tree rows) ids)) n_is ∙ numbered_tree rows ids (n - 1) d h },
-      record { belongs = all_at (BelongsTo rows) ids (n - 1) d a h; same = refl },
+      record { belongs = all_get (BelongsTo rows) ids (n - 1) d a h; same = refl },
     )
 
 pub numbered_not : (rows : List Row) (ids : List TypeId) (bytes : List ℕ) (n k : ℕ) → SpellsNumber bytes n → k ≡ n - 1 → length ids ≤ k → (T : Tree) → NamesType (map (tree rows) ids) bytes T → ⊥
@@ -137,12 +134,9 @@ all_belong : (old new : List Row) (ids : List TypeId) → length old ≤ length 
 all_belong old new [] h a = tt
 all_belong old new (i ∷ ids) h a = (let b = a.0 in omega (arith, h, b), all_belong old new ids h a.1)
 
-rows_more : (old new : List Row) → KeepsRows old new → length old ≤ length new
-rows_more old new k = let e = ap length k.grown in let l = length-append old k.more in omega (arith, e, l)
-
 pub naming_stands : (p q : ProgramTable) (naming : Naming) → NamingStands p.types naming → GrowsTypes p q → NamingStands q.types naming
 naming_stands p q Spelled s g = tt
-naming_stands p q (Numbered ids) s g = (all_belong p.types q.types ids.items (rows_more p.types q.types g.adds.types) s.0, s.1)
+naming_stands p q (Numbered ids) s g = (all_belong p.types q.types ids.items (KeepsRows-length p.types q.types g.adds.types) s.0, s.1)
 
 -- ---- that there are types to be named, and that bytes name one at most
 pub record CanName (R S : List ℕ → Tree → Type 0) : Type 0 where

@@ -5,6 +5,7 @@ use Rattle.std.specs.List.{AllZip}
 use Rattle.std.proofs.lemmas.Bool.{ne_eqb}
 use Rattle.std.proofs.lemmas.Slice.Zip.{all_zipped_more}
 use Rattle.xd_doc.specs.declared.NoMemory.{NoMemory}
+use Rattle.xd_doc.proofs.Lists.{zip_long}
 use Rattle.xd_syntax.specs.Tree.{Tree}
 use Rattle.xd_syntax.specs.Table.{Row, KeepsRows}
 use Rattle.xd_syntax.specs.SoundTables.{IsTypeAt}
@@ -190,14 +191,8 @@ length-goals : (n : ℕ) (bs : List (Block Tree)) → length (goals_from n bs) �
 length-goals n [] = refl
 length-goals n (b ∷ bs) = ap suc (length-goals (n + block_length b) bs)
 
-length-zip : {A B : Type 0} (R : A → B → Type 0) (xs : List A) (ys : List B) → AllZip R xs ys → length xs ≡ length ys
-length-zip R [] [] a = refl
-length-zip R [] (y ∷ ys) a = absurd a
-length-zip R (x ∷ xs) [] a = absurd a
-length-zip R (x ∷ xs) (y ∷ ys) a = ap suc (length-zip R xs ys a.1)
-
 pub length-made : (types : List Row) (made : List ProofGoal) (n : ℕ) (bs : List (Block Tree)) → AreGoalsAt types made (goals_from n bs) → length made ≡ length bs
-length-made types made n bs a = length-zip (IsLinedAt types) made (goals_from n bs) a ∙ length-goals n bs
+length-made types made n bs a = zip_long (IsLinedAt types) made (goals_from n bs) a ∙ length-goals n bs
 
 one_ended : (types : List Row) (first count : ℕ) (ended more : Ended) (goal : ProofGoal) (bs : List (Block Tree)) (b : Block Tree) → more.count ≡ ended.count → (more.goals).items ≡ (ended.goals).items ++ goal ∷ [] →
     AreEnded types first ended count bs → IsLinedAt types goal (lined_behind first bs b) → AreEnded types first more count (bs ++ b ∷ [])

@@ -4,40 +4,32 @@ use Rattle.std.specs.Prelude.{codes}
 use Rattle.std.specs.List.{AllByRecursion, list_all}
 use Rattle.std.specs.Int.{IsInRange}
 use Rattle.std.specs.Fmt.{decimal}
-use Rattle.std.specs.Str.Parse.{digits_value}
-use Rattle.std.proofs.lemmas.Str.Parse.{IsNumeralModel, numerals_by_value}
 use Rattle.std.proofs.lemmas.Fmt.{digits_decimal}
 use Rattle.xd_doc.specs.Word.{is_word, is_word_start, is_word_part, are_word_parts}
 use Rattle.xd_doc.specs.Document.{escaped, escaped_all}
+use Rattle.xd_doc.proofs.Bools.{and_parts}
+use Rattle.xd_doc.proofs.Lists.{all_append}
 use Rattle.xd_syntax.specs.Tree.{Tree, Empty, Text, Words, Name, Elem, Seq, Alt, Star, Plus, Opt, Val, is_empty}
 use Rattle.xd_syntax.specs.Proper.{IsProperTree}
 use Rattle.xd_syntax.specs.TypeText.{Level, any_type_level, sequence_level, postfix_level, primary_level, parted, sequence_wants, alternative_wants, postfix_wants, in_parentheses, barred, labels_text, excepted_text, class_text, quoted, text_at_level}
 use Rattle.xd_meaning.specs.Consistent.{Atom, this_label, other_label, this_text, other_text, ChoiceTree, settles_content, settles_rest, split_on, Case}
-use Rattle.xd_laws.proofs.WordLists.{both}
 use Rattle.xd_proof.specs.Lines.{line_feed, space, spaced, IsFreeOf, IsNumber}
 use Rattle.xd_proof.specs.Parts.{atom_word, IsAtom, tree_words, HasNumbers, case_words}
+use Rattle.xd_proof.proofs.Unique.{digits_model}
 use Rattle.xd_proof_write.specs.Laws.{IsWritableCase}
 
 abbrev pub IsLine : List ℕ → Type 0
 IsLine bytes = IsFreeOf line_feed bytes
 
-pub joined : {A : Type 0} (P : A → Type 0) (xs ys : List A) → AllByRecursion P xs → AllByRecursion P ys → AllByRecursion P (xs ++ ys)
-joined P [] ys a b = b
-joined P (x ∷ xs) ys a b = (a.0, joined P xs ys a.1 b)
-
 pub line_joined : (s r : List ℕ) → IsLine s → IsLine r → IsLine (s ++ r)
-line_joined s r a b = joined (λ b. b ≡ line_feed → ⊥) s r a b
+line_joined s r a b = all_append (λ b. b ≡ line_feed → ⊥) s r a b
 
 -- by a test
 pub is_line : (bytes : List ℕ) → list_all (λ b. not (nat_eq b line_feed)) bytes ≡ true → IsLine bytes
 is_line [] h = tt
 is_line (b ∷ bs) h =
-    let r = both (not (nat_eq b line_feed)) (list_all (λ b. not (nat_eq b line_feed)) bs) h in
+    let r = and_parts (not (nat_eq b line_feed)) (list_all (λ b. not (nat_eq b line_feed)) bs) h in
     ((λ k. let z : false ≡ true = subst (λ x. not (nat_eq x line_feed) ≡ true) k r.0 in absurd (cc)), is_line bs r.1)
-
--- ---- words and numbers
-digits_model : IsNumeralModel (AllByRecursion (IsInRange 48 57)) (digits_value 10)
-digits_model = numerals_by_value _ (record { empty = tt; parts = λ c cs p. p; more = λ c cs r p. (r, p) })
 
 digits_line : (ds : List ℕ) → AllByRecursion (IsInRange 48 57) ds → IsLine ds
 digits_line [] a = tt
@@ -49,13 +41,13 @@ decimal_line n h = let m = h.most in digits_line (decimal n) (digits_decimal dig
 parts_line : (cs : List ℕ) → are_word_parts cs ≡ true → IsLine cs
 parts_line [] h = tt
 parts_line (c ∷ cs) h =
-    let r = both _ _ h in
+    let r = and_parts _ _ h in
     ((λ e. let k : false ≡ true = subst (λ x. is_word_part x ≡ true) e r.0 in absurd (cc)), parts_line cs r.1)
 
 word_line : (w : List ℕ) → is_word w ≡ true → IsLine w
 word_line [] h = tt
 word_line (c ∷ cs) h =
-    let r = both _ _ h in
+    let r = and_parts _ _ h in
     ((λ e. let k : false ≡ true = subst (λ x. is_word_start x ≡ true) e r.0 in absurd (cc)), parts_line cs r.1)
 
 -- ---- texts in quotes
@@ -145,7 +137,7 @@ atom_line other_text h = is_line (codes "$") refl
 tree_lines : (t : ChoiceTree) → HasNumbers t → AllByRecursion IsLine (tree_words t)
 tree_lines (settles_content n) h = (is_line (codes "c") refl, (decimal_line n h, tt))
 tree_lines (settles_rest n) h = (is_line (codes "r") refl, (decimal_line n h, tt))
-tree_lines (split_on n A B) h = (is_line (codes "?") refl, (decimal_line n h.0, joined IsLine (tree_words A) (tree_words B) (tree_lines A h.1) (tree_lines B h.2)))
+tree_lines (split_on n A B) h = (is_line (codes "?") refl, (decimal_line n h.0, all_append IsLine (tree_words A) (tree_words B) (tree_lines A h.1) (tree_lines B h.2)))
 
 pub spaced_line : (ws : List (List ℕ)) → AllByRecursion IsLine ws → IsLine (spaced ws)
 spaced_line [] a = tt

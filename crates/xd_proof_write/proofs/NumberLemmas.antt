@@ -4,8 +4,8 @@ use Rattle.std.specs.Prelude.{if◌then◌else◌}
 use Rattle.std.specs.List.{list_any, position_or_len}
 use Rattle.std.specs.Str.{bytes_eq}
 use Rattle.std.proofs.lemmas.List.{take_more, map_push, length-map}
-use Rattle.std.proofs.lemmas.Slice.Eq.{bytes_eq-Decides}
 use Rattle.std.proofs.lemmas.Bool.Decides.{Decides-eqb}
+use Rattle.xd_doc.proofs.Lists.{word_itself}
 use Rattle.xd_proof_write.specs.SecondText.{number_among}
 use Rattle.std.specs.HashMap.{get}
 use Rattle.xd_syntax.specs.Table.{Row, tree_at}
@@ -13,12 +13,6 @@ use Rattle.xd_syntax.specs.TypeText.{type_text}
 use Rattle.xd_proof_write.specs.declared.numbers.Numbers.{Numbers}
 use Rattle.xd_proof_write.specs.Written.{type_line, type_lines, with_text, texts_in, KnowsNumbers}
 use Rattle.xd_proof_write.proofs.OnceLemmas.{passes_front, passes_new, position_front, position_new, grows}
-
-pub same_bytes : (x y : List ℕ) → bytes_eq x y ≡ true → x ≡ y
-same_bytes x y h = (bytes_eq-Decides x y).0 h
-
-pub bytes_same : (x : List ℕ) → bytes_eq x x ≡ true
-bytes_same x = (bytes_eq-Decides x x).1 refl
 
 module _ {V : Type 0} (f : V → List ℕ) where
   any_mapped : (t : List ℕ) (xs : List V) → list_any (λ x. bytes_eq t (f x)) xs ≡ list_any (bytes_eq t) (map f xs)
@@ -44,14 +38,14 @@ put_number texts t more = ap (λ n. n + 1) (by (list_any (bytes_eq t) texts) ref
   where
     by : (b : Bool) → list_any (bytes_eq t) texts ≡ b → position_or_len (bytes_eq t) (with_text texts t ++ more) ≡ position_or_len (bytes_eq t) texts
     by true h = rw h (position_front (bytes_eq t) texts more h)
-    by false h = rw h (ap (position_or_len (bytes_eq t)) (append_assoc texts (t ∷ []) more) ∙ position_new (bytes_eq t) texts t more h (bytes_same t))
+    by false h = rw h (ap (position_or_len (bytes_eq t)) (append_assoc texts (t ∷ []) more) ∙ position_new (bytes_eq t) texts t more h (word_itself t))
 
 pub put_there : (texts : List (List ℕ)) (t : List ℕ) → list_any (bytes_eq t) (with_text texts t) ≡ true
 put_there texts t = by (list_any (bytes_eq t) texts) refl
   where
     by : (b : Bool) → list_any (bytes_eq t) texts ≡ b → list_any (bytes_eq t) (with_text texts t) ≡ true
     by true h = rw h h
-    by false h = rw h (passes_new (bytes_eq t) texts t [] (bytes_same t))
+    by false h = rw h (passes_new (bytes_eq t) texts t [] (word_itself t))
 
 -- what is there stays there
 pub still_there : (texts : List (List ℕ)) (t s : List ℕ) → list_any (bytes_eq s) texts ≡ true → list_any (bytes_eq s) (with_text texts t) ≡ true

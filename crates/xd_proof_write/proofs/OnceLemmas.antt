@@ -5,12 +5,6 @@ use Rattle.std.proofs.lemmas.List.Elements.{filter-append}
 use Rattle.xd_meaning.specs.Consistent.{numbered}
 use Rattle.xd_proof_write.specs.SecondText.{each_once, number_among}
 
-pub same_bool : (a b : Bool) → (a ≡ true → b ≡ true) → (b ≡ true → a ≡ true) → a ≡ b
-same_bool true true f g = refl
-same_bool true false f g = sym (f refl)
-same_bool false true f g = g refl
-same_bool false false f g = refl
-
 -- ---- whether one passes, and the first that does
 module _ {A : Type 0} (p : A → Bool) where
   pub passes_front : (xs ys : List A) → list_any p xs ≡ true → list_any p (xs ++ ys) ≡ true

@@ -1,10 +1,12 @@
 -- What is written of a proof as it is kept is the second text of its goals.
-use Rattle.std.proofs.Common.{◌≡◌, ℕ, suc, true, false, List, [], ◌∷◌, ◌++◌, map, length, refl, ap, sym, subst, ◌∙◌}
+use Rattle.std.proofs.Common.{◌≡◌, ℕ, true, false, List, [], ◌∷◌, ◌++◌, map, length, refl, ap, sym, subst, ◌∙◌}
 use Rattle.std.specs.Prelude.{codes, flat_map}
 use Rattle.std.specs.List.{AllByRecursion, AllZip}
 use Rattle.std.specs.Str.{bytes_eq}
 use Rattle.std.proofs.lemmas.List.{map-append, length-map}
 use Rattle.std.proofs.lemmas.Slice.Eq.{bytes_eq-Decides}
+use Rattle.xd_doc.proofs.Bools.{same_tests}
+use Rattle.xd_doc.proofs.Lists.{all_append, word_itself, zip_long}
 use Rattle.xd_syntax.specs.Tree.{Tree}
 use Rattle.xd_syntax.specs.TypeText.{type_text}
 use Rattle.xd_syntax.specs.Table.{Row}
@@ -14,6 +16,7 @@ use Rattle.xd_syntax.specs.declared.types.TypeId.{TypeId}
 use Rattle.xd_meaning.specs.Breach.{Lined, goals_of}
 use Rattle.xd_laws.specs.SameTree.{same_tree}
 use Rattle.xd_laws.proofs.SameTrees.{same_tree-is, tree_same}
+use Rattle.xd_laws.proofs.Unfoldings.{same_word_eq}
 use Rattle.xd_type_laws.proofs.Tables.{merged_node, proper_node, one_node}
 use Rattle.xd_proof.specs.Parts.{end_part}
 use Rattle.xd_proof.specs.Form.{types_from, blocks_from, goal_list}
@@ -22,20 +25,12 @@ use Rattle.xd_proof.specs.declared.proof.ProofGoal.{ProofGoal}
 use Rattle.xd_proof_write.specs.SecondText.{each_once, number_among, types_of, distinct_types, numbered_block, second_text_of}
 use Rattle.xd_proof_write.specs.Laws.{IsTableType}
 use Rattle.xd_proof_write.specs.Written.{number_line, type_lines, text_at, goal_texts, with_texts, goals_lines, proof_lines}
-use Rattle.xd_proof_write.proofs.OnceLemmas.{same_bool, once_folded, once_mapped, all_once, number_mapped}
-use Rattle.xd_proof_write.proofs.NumberLemmas.{same_bytes, bytes_same}
-use Rattle.xd_proof_write.proofs.FreeLemmas.{joined}
+use Rattle.xd_proof_write.proofs.OnceLemmas.{once_folded, once_mapped, all_once, number_mapped}
 use Rattle.xd_proof_write.proofs.LineLemmas.{lines, lines-append, behind_number, types_written, goals_written}
 
 -- texts taken in turn are each there once
 pub texts_once : (ts : List (List ℕ)) → with_texts [] ts ≡ each_once bytes_eq ts
-texts_once ts = once_folded bytes_eq same_bytes bytes_same ts []
-
-length_zip : {A B : Type 0} (R : A → B → Type 0) (xs : List A) (ys : List B) → AllZip R xs ys → length xs ≡ length ys
-length_zip R [] [] a = refl
-length_zip R [] (y ∷ ys) a = absurd a
-length_zip R (x ∷ xs) [] a = absurd a
-length_zip R (x ∷ xs) (y ∷ ys) a = ap suc (length_zip R xs ys a.1)
+texts_once ts = once_folded bytes_eq same_word_eq word_itself ts []
 
 module _ (rows : List Row) where
   -- the type of some node
@@ -62,7 +57,7 @@ module _ (rows : List Row) where
       ap (λ t. type_text t ∷ map (text_at rows) (m.rights).items) (i.left).same ∙ ap (λ ts. type_text (l.goal).left ∷ ts) r.0 in (
         ap (λ ts. ts ++ flat_map (goal_texts rows) ms) e ∙ ap (λ ts. map type_text ((l.goal).left ∷ (l.goal).rights) ++ ts) q.0
             ∙ sym (map-append type_text ((l.goal).left ∷ (l.goal).rights) (types_of (goals_of ls))),
-        joined Stands ((l.goal).left ∷ (l.goal).rights) (types_of (goals_of ls)) (((m.left, i.left), r.1)) q.1,
+        all_append Stands ((l.goal).left ∷ (l.goal).rights) (types_of (goals_of ls)) (((m.left, i.left), r.1)) q.1,
       )
 
   module _ (t : IsTable false rows) where
@@ -76,7 +71,7 @@ module _ (rows : List Row) where
     table_types ms ls a = all_good (types_of (goals_of ls)) (goals_read ms ls a).1
 
     agree : (T U : Tree) → Stands T → Stands U → same_tree T U ≡ bytes_eq (type_text T) (type_text U)
-    agree T U p q = same_bool (same_tree T U) (bytes_eq (type_text T) (type_text U)) there back
+    agree T U p q = same_tests (same_tree T U) (bytes_eq (type_text T) (type_text U)) there back
       where
         there : same_tree T U ≡ true → bytes_eq (type_text T) (type_text U) ≡ true
         there h = (bytes_eq-Decides (type_text T) (type_text U)).1 (ap type_text (same_tree-is T U h))
@@ -85,7 +80,7 @@ module _ (rows : List Row) where
         back h =
             let a = p.1 in
             let b = q.1 in
-            let e : T ≡ U = sym a.same ∙ one_node rows t (p.0).at (q.0).at a.belongs b.belongs (ap type_text a.same ∙ same_bytes (type_text T) (type_text U) h ∙ ap type_text (sym b.same)) ∙ b.same in
+            let e : T ≡ U = sym a.same ∙ one_node rows t (p.0).at (q.0).at a.belongs b.belongs (ap type_text a.same ∙ same_word_eq (type_text T) (type_text U) h ∙ ap type_text (sym b.same)) ∙ b.same in
             subst (λ V. same_tree T V ≡ true) e (tree_same T)
 
     -- the types of the goals, by their texts
@@ -107,7 +102,7 @@ module _ (rows : List Row) where
       second_written =
           let Ts = distinct_types (goals_of ls) in
           let bs = map (numbered_block Ts) (goals_of ls) in
-          let many : length ms ≡ length bs = length_zip _ ms ls a ∙ sym (length-map ls (λ (l : Lined). l.goal)) ∙ sym (length-map (goals_of ls) (numbered_block Ts)) in
+          let many : length ms ≡ length bs = zip_long _ ms ls a ∙ sym (length-map ls (λ (l : Lined). l.goal)) ∙ sym (length-map (goals_of ls) (numbered_block Ts)) in
           let goals : goals_lines rows (number_among bytes_eq (map type_text Ts)) 1 ms ++ codes "end\n" ≡ lines (blocks_from 1 bs ++ end_part ∷ []) =
           ap (λ r. r ++ codes "end\n") (goals_written rows (number_among bytes_eq (map type_text Ts)) (number_among same_tree Ts) numbers_are 1 ms ls a)
           ∙ sym (lines-append (blocks_from 1 bs) (end_part ∷ [])) in

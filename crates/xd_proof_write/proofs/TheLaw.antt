@@ -4,6 +4,7 @@ use Rattle.std.specs.Prelude.{codes}
 use Rattle.std.specs.Fmt.{decimal}
 use Rattle.std.specs.List.{AllByRecursion, list_any, position_or_len}
 use Rattle.std.proofs.lemmas.List.{length-map}
+use Rattle.xd_doc.proofs.Lists.{all_append, all_front, all_back}
 use Rattle.xd_syntax.specs.Tree.{Tree}
 use Rattle.xd_syntax.specs.TypeText.{type_text}
 use Rattle.xd_meaning.specs.Consistent.{Case, Goal}
@@ -18,15 +19,7 @@ use Rattle.xd_proof.specs.Form.{Block, empty_parts, block_parts, blocks_from, ty
 use Rattle.xd_proof_write.specs.SecondText.{each_once, number_among, types_of, distinct_types, numbered_block, second_parts, line_of, second_text_of}
 use Rattle.xd_proof_write.specs.Laws.{IsWritable, IsTableType, IsWritableCase, IsWritableNumber, IsWritableGoal, SecondTextsReadBack, SameTypesAreEqual}
 use Rattle.xd_proof_write.proofs.OnceLemmas.{all_there, once_has, number_stands, all_once}
-use Rattle.xd_proof_write.proofs.FreeLemmas.{IsLine, joined, line_joined, is_line, decimal_line, type_line, case_line}
-
-back : {A : Type 0} (P : A → Type 0) (xs ys : List A) → AllByRecursion P (xs ++ ys) → AllByRecursion P ys
-back P [] ys a = a
-back P (x ∷ xs) ys a = back P xs ys a.1
-
-front : {A : Type 0} (P : A → Type 0) (xs ys : List A) → AllByRecursion P (xs ++ ys) → AllByRecursion P xs
-front P [] ys a = tt
-front P (x ∷ xs) ys a = (a.0, front P xs ys a.1)
+use Rattle.xd_proof_write.proofs.FreeLemmas.{IsLine, line_joined, is_line, decimal_line, type_line, case_line}
 
 -- ---- lines that are spelled, and have no line feed
 module _ (known : List (List ℕ)) where
@@ -107,18 +100,18 @@ module _ (known : List (List ℕ)) where
     block_written : (k : ℕ) (g : Goal) → IsNumber k → IsWritableGoal g → AllByRecursion IsThere (g.left ∷ g.rights) → AllByRecursion IsWritten (block_parts k (numbered_block Us g))
     block_written k g h w a =
         let n = number g.left a.0 in
-        joined IsWritten (goal_part k ∷ left_part (number_among same_tree Us g.left) ∷ map right_part (map (number_among same_tree Us) g.rights)) (empty_parts g.empty_right ++ map case_part g.cases) (
+        all_append IsWritten (goal_part k ∷ left_part (number_among same_tree Us g.left) ∷ map right_part (map (number_among same_tree Us) g.rights)) (empty_parts g.empty_right ++ map case_part g.cases) (
           record { spelled = follows (codes "goal") k h; line = numbered_line (codes "goal") k (is_line (codes "goal") refl) h },
           (record { spelled = follows (codes "left") _ n; line = numbered_line (codes "left") _ (is_line (codes "left") refl) n }, rights_written g.rights a.1),
         )
-        (joined IsWritten (empty_parts g.empty_right) (map case_part g.cases) (empty_written g.empty_right w.empty_right) (cases_written g.cases w.cases))
+        (all_append IsWritten (empty_parts g.empty_right) (map case_part g.cases) (empty_written g.empty_right w.empty_right) (cases_written g.cases w.cases))
 
     blocks_written : (k : ℕ) (gs : List Goal) → 0 < k → k + length gs ≤ 10 ^ 18 → AllByRecursion IsWritableGoal gs → AllByRecursion IsThere (types_of gs) → AllByRecursion IsWritten (blocks_from k (map (numbered_block Us) gs))
     blocks_written k [] p q w a = tt
     blocks_written k (g ∷ gs) p q w a =
-        joined IsWritten (block_parts k (numbered_block Us g)) (blocks_from (k + 1) (map (numbered_block Us) gs))
-        (block_written k g (record { least = p; most = omega (arith, q) }) w.0 (front IsThere (g.left ∷ g.rights) (types_of gs) a))
-        (blocks_written (k + 1) gs (omega arith) (omega (arith, q)) w.1 (back IsThere (g.left ∷ g.rights) (types_of gs) a))
+        all_append IsWritten (block_parts k (numbered_block Us g)) (blocks_from (k + 1) (map (numbered_block Us) gs))
+        (block_written k g (record { least = p; most = omega (arith, q) }) w.0 (all_front IsThere (g.left ∷ g.rights) (types_of gs) a))
+        (blocks_written (k + 1) gs (omega arith) (omega (arith, q)) w.1 (all_back IsThere (g.left ∷ g.rights) (types_of gs) a))
 
     -- what the numbers name
     abbrev meant : Goal → Block Tree
@@ -131,9 +124,9 @@ module _ (known : List (List ℕ)) where
     name_types : (gs : List Goal) → AllByRecursion IsThere (types_of gs) → NameTypes Us (map (numbered_block Us) gs) (map meant gs)
     name_types [] a = tt
     name_types (g ∷ gs) a =
-        let r = front IsThere (g.left ∷ g.rights) (types_of gs) a in (
+        let r = all_front IsThere (g.left ∷ g.rights) (types_of gs) a in (
           record { left = number_stands same_tree same_tree-is tree_same g.left Us r.0; rights = are_named g.rights r.1; empty_right = refl; cases = refl },
-          name_types gs (back IsThere (g.left ∷ g.rights) (types_of gs) a),
+          name_types gs (all_back IsThere (g.left ∷ g.rights) (types_of gs) a),
         )
 
     same_goals : (n : ℕ) (gs : List Goal) → goals_of (goals_from n (map meant gs)) ≡ gs
@@ -145,7 +138,7 @@ module _ (known : List (List ℕ)) where
         let m = h.most in
         let n : IsNumber (length (map (numbered_block Us) gs)) = subst IsNumber (sym (length-map gs (numbered_block Us))) h in (
           record { spelled = follows (codes "goals") _ n; line = numbered_line (codes "goals") _ (is_line (codes "goals") refl) n },
-          joined IsWritten (blocks_from 1 (map (numbered_block Us) gs)) (end_part ∷ []) (blocks_written 1 gs (omega arith) (omega (arith, m)) w a) (record { spelled = refl; line = is_line (codes "end") refl }, tt),
+          all_append IsWritten (blocks_from 1 (map (numbered_block Us) gs)) (end_part ∷ []) (blocks_written 1 gs (omega arith) (omega (arith, m)) w a) (record { spelled = refl; line = is_line (codes "end") refl }, tt),
         )
 
 there : (Ts : List Tree) (xs : List Tree) → AllByRecursion (λ T. list_any (same_tree T) xs ≡ true) Ts → AllByRecursion (λ T. list_any (same_tree T) (each_once same_tree xs) ≡ true) Ts
@@ -170,7 +163,7 @@ second_texts_read_back known gs w t =
       record { spelled = refl; line = is_line (codes "xduce-proof 2") refl },
       (
         record { spelled = follows known (codes "types") (length Us) few; line = numbered_line known (codes "types") (length Us) (is_line (codes "types") refl) few },
-        joined (IsWritten known) (types_from 1 Us) (goal_list (map (numbered_block Us) gs))
+        all_append (IsWritten known) (types_from 1 Us) (goal_list (map (numbered_block Us) gs))
             (types_written known 1 Us (omega arith) (omega (arith, m)) (once_good known (types_of gs) (both_ways known (types_of gs) w.types t)))
             (goals_written known Us few gs w.goal_count w.goals in_list),
       ),

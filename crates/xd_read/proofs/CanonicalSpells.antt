@@ -19,7 +19,7 @@ use Rattle.std.proofs.lemmas.Bool.{and_parts}
 abbrev terminals_at : Place → List ℕ → List Terminal
 terminals_at p bs = terminals_of (tokens_from 0 p bs)
 
-word_of-label : (l : List ℕ) → word_of (l ++ 91 ∷ []) ≡ l
+pub word_of-label : (l : List ℕ) → word_of (l ++ 91 ∷ []) ≡ l
 word_of-label l =
     let n : length (l ++ 91 ∷ []) - 1 ≡ length l = omega (arith, length-append l (91 ∷ [])) in
     rw n (take-append_seam l (91 ∷ []))

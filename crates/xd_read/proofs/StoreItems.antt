@@ -4,7 +4,7 @@ use Rattle.std.specs.List.{AllByRecursion}
 use Rattle.xd_doc.specs.Document.{Document, text, element, join}
 use Rattle.xd_doc.specs.Stored.{document_at}
 use Rattle.xd_doc.specs.StoredSeq.{BelongsTo}
-use Rattle.xd_doc.specs.StoreNodes.{Keeps, no_items}
+use Rattle.xd_doc.specs.StoreNodes.{Keeps}
 use Rattle.xd_doc.specs.declared.store.Seq.{Seq}
 use Rattle.xd_doc.proofs.StoredLemmas.{Keeps-trans}
 use Rattle.xd_read.specs.declared.reader.Finished.{Finished}
@@ -36,9 +36,6 @@ pub record StoredSoFar (ds es : List Document) (all left : List Finished) (start
   pub split : all ≡ left ++ rest
   pub same : document_at es seq ≡ items_of ds rest
   pub within : start ≤ length left
-
-nothing : (ds : List Document) → BelongsTo ds no_items
-nothing ds = record { place = tt; proper = refl; filled = refl }
 
 append-nil : (xs : List Finished) → xs ++ [] ≡ xs
 append-nil [] = refl

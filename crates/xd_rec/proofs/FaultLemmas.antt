@@ -1,5 +1,6 @@
 -- uses as edges, and faults of uses
 use Rattle.std.proofs.Common.{◌≡◌, ℕ, zero, suc, ◌<◌, arith, Bool, true, false, cond, List, [], ◌∷◌, ◌++◌, length, get_or, Some, refl, ap, sym, subst, ◌∙◌, inl, inr}
+use Rattle.xd_doc.proofs.Options.{some_same}
 use Rattle.xd_syntax.proofs.Members.{mem_append, append_left, append_right}
 use Rattle.xd_syntax.specs.declared.types.TypeDef.{TypeDef}
 use Rattle.xd_syntax.specs.declared.fault.Fault.{Fault}
@@ -29,9 +30,6 @@ graph_more ds us u front g h i a = record {
     ],
   );
 }
-
-some_same : {A : Type 0} (x y : A) → Some x ≡ Some y → x ≡ y
-some_same x y e = cc
 
 pub use_added : (ds : List TypeDef) (u : TopUse) (front : Bool) (g : List (List ℕ)) (t : ℕ) → u.owner < length g → first_of ds u.name ≡ Some t → (front ≡ true → u.is_front ≡ true) →
     AddsUse ds u front g (with_edge g u.owner t)

@@ -1,9 +1,11 @@
 -- from components to faults of recursion
-use Rattle.std.proofs.Common.{◌≡◌, ℕ, zero, suc, ◌+◌, ◌-◌, ◌<◌, ◌≤◌, ◌&&◌, ◌↔◌, arith, Bool, true, false, not, cond, List, [], ◌∷◌, ◌++◌, length, get_or, map, Option, Some, None, refl, ap, sym, subst, ◌∙◌, inl, inr}
+use Rattle.std.proofs.Common.{◌≡◌, ℕ, zero, suc, ◌+◌, ◌-◌, ◌<◌, ◌≤◌, ◌↔◌, arith, Bool, true, false, not, cond, List, [], ◌∷◌, ◌++◌, length, get_or, map, Option, Some, None, refl, ap, sym, subst, ◌∙◌, inl, inr}
 use Rattle.std.proofs.lemmas.List.{map-append}
 use Rattle.std.specs.Str.{bytes_eq}
 use Rattle.std.proofs.lemmas.Slice.Eq.{bytes_eq-Decides}
+use Rattle.std.proofs.lemmas.Bool.{and_from, not_from_false}
 use Rattle.xd_doc.specs.Document.{empty}
+use Rattle.xd_doc.proofs.Bools.{and_parts, not_true}
 use Rattle.xd_syntax.specs.Tree.{Tree, Definitions}
 use Rattle.xd_syntax.specs.Table.{Row}
 use Rattle.xd_syntax.specs.Placed.{PlacedTree}
@@ -180,20 +182,6 @@ all_faults test fault made Z h k (t ∷ ts) =
     ∙ ap (λ fs. map made (kept_uses test Z k t.name (top_uses t.body)) ++ fs) (all_faults test fault made Z h (suc k) ts)
     ∙ sym (map-append made (kept_uses test Z k t.name (top_uses t.body)) (kept_all test Z (suc k) ts))
 
-and_true : (a b : Bool) → (a && b) ≡ true → (a ≡ true) × (b ≡ true)
-and_true true b e = (refl, e)
-and_true false b e = absurd (cc)
-
-and_made : (a b : Bool) → a ≡ true → b ≡ true → (a && b) ≡ true
-and_made a b e f = rw (e, f) refl
-
-not_made : (a : Bool) → a ≡ false → not a ≡ true
-not_made a e = rw e refl
-
-not_true : (a : Bool) → not a ≡ true → a ≡ false
-not_true true e = absurd (cc)
-not_true false e = refl
-
 -- the chains of uses that a fact allows, and the paths of a graph of uses
 module _ (types : List Row) (ds : List TypeDef) (fs : List FunctionDefinition) (unique : AreUnique ds) (Z : Tree → Bool)
     (front : Bool) (A : Use → Type 0) (counted : (u : Use) → A u → front ≡ true → all_empty Z u.before ≡ true) (allowed : (u : Use) → (front ≡ true → all_empty Z u.before ≡ true) → A u)
@@ -259,7 +247,7 @@ module _ (types : List Row) (ds : List TypeDef) (fs : List FunctionDefinition) (
 
 all_can : (E : Definitions) (Z : Tree → Bool) → ((T : Tree) → (Z T ≡ true) ↔ Fits E T empty) → (Ts : List Tree) → all_empty Z Ts ≡ true → AllCanBeEmpty E Ts
 all_can E Z d [] e = tt
-all_can E Z d (T ∷ Ts) e = let r = and_true (Z T) (all_empty Z Ts) e in ((d T).0 r.0, all_can E Z d Ts r.1)
+all_can E Z d (T ∷ Ts) e = let r = and_parts (Z T) (all_empty Z Ts) e in ((d T).0 r.0, all_can E Z d Ts r.1)
 
 can_all : (E : Definitions) (Z : Tree → Bool) → ((T : Tree) → (Z T ≡ true) ↔ Fits E T empty) → (Ts : List Tree) → AllCanBeEmpty E Ts → all_empty Z Ts ≡ true
 can_all E Z d [] a = refl
@@ -279,17 +267,17 @@ all_recursion_faults types ds fs unique Z decides g h st su ig ag ih ah faults e
       unguarded = kept_all (recurs Unguarded ds su) Z 0 ts;
       outside_all = keeps_all (recurs OutsideTail ds st) Z (λ w. IsOutsideTail P w.owner w.use_there) types 0 ds (λ i u l m. (let z : i ≡ 0 + i = omega arith in
           subst (λ n. Decided (recurs OutsideTail ds st) Z (λ w. IsOutsideTail P w.owner w.use_there) n (name_at ds i) u) z (
-            λ t. (let r = and_true (not u.is_tail) (is_back ds st (seen Z i u)) t in
+            λ t. (let r = and_parts (not u.is_tail) (is_back ds st (seen Z i u)) t in
                 (not_true u.is_tail r.0, back_leads types ds fs unique Z false AnyUse (λ x a q. absurd (cc)) (λ x a. tt) g ig st ag i u r.1 l)),
             λ q. (let b = leads_back types ds fs unique Z false AnyUse (λ x a z. absurd (cc)) (λ x a. tt) g ig st ag i u l m tt q.1 in
-                and_made (not u.is_tail) (is_back ds st (seen Z i u)) (not_made u.is_tail q.0) b),
+                and_from (not u.is_tail) (is_back ds st (seen Z i u)) (not_from_false u.is_tail q.0) b),
           )));
       unguarded_all = keeps_all (recurs Unguarded ds su) Z (λ w. IsUnguarded P w.owner w.use_there) types 0 ds (λ i u l m. (let z : i ≡ 0 + i = omega arith in
           subst (λ n. Decided (recurs Unguarded ds su) Z (λ w. IsUnguarded P w.owner w.use_there) n (name_at ds i) u) z (
-            λ t. (let r = and_true (all_empty Z u.before) (is_back ds su (seen Z i u)) t in
+            λ t. (let r = and_parts (all_empty Z u.before) (is_back ds su (seen Z i u)) t in
                 (all_can E Z decides u.before r.0, back_leads types ds fs unique Z true (IsFrontUse E) (λ x a q. can_all E Z decides x.before a) (λ x a. all_can E Z decides x.before (a refl)) h ih su ah i u r.1 l)),
             λ q. (let b = leads_back types ds fs unique Z true (IsFrontUse E) (λ x a z. can_all E Z decides x.before a) (λ x a. all_can E Z decides x.before (a refl)) h ih su ah i u l m q.0 q.1 in
-                and_made (all_empty Z u.before) (is_back ds su (seen Z i u)) (can_all E Z decides u.before q.0) b),
+                and_from (all_empty Z u.before) (is_back ds su (seen Z i u)) (can_all E Z decides u.before q.0) b),
           )));
       listed = e ∙ ap in_order
           (ap (λ xs. xs ++ faults_of (recurs Unguarded ds su) (recursion_fault Unguarded) (uses_from Z 0 ts)) (all_faults (recurs OutsideTail ds st) (recursion_fault OutsideTail) not_tail_fault Z (λ k x u. refl) 0 ts)

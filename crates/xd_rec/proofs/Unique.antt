@@ -1,7 +1,9 @@
 -- without faults of names each definition of a type is the first of its name
-use Rattle.std.proofs.Common.{◌≡◌, ℕ, zero, suc, ◌+◌, ◌<◌, ◌||◌, arith, Bool, true, false, cond, List, [], ◌∷◌, ◌++◌, length, get_or, map, Some, refl, ap, ◌∙◌}
+use Rattle.std.proofs.Common.{◌≡◌, ℕ, zero, suc, ◌+◌, ◌<◌, arith, Bool, true, false, cond, List, [], ◌∷◌, ◌++◌, length, get_or, map, Some, refl, ap, ◌∙◌}
 use Rattle.std.specs.Str.{bytes_eq}
 use Rattle.std.proofs.lemmas.Slice.Eq.{bytes_eq-Decides}
+use Rattle.std.proofs.lemmas.Bool.{or_parts}
+use Rattle.xd_doc.proofs.Lists.{none_of}
 use Rattle.xd_syntax.specs.Words.{has_word, any_word, string_word}
 use Rattle.xd_syntax.specs.Table.{Row}
 use Rattle.xd_syntax.specs.Order.{precedes, put_in, ordered_after, in_order}
@@ -28,10 +30,6 @@ ordered_after-length done [] = omega arith
 ordered_after-length done (f ∷ fs) =
     let i = ordered_after-length (put_in precedes f done) fs in let j = put_in-length f done in omega arith
 
-none_of : {A : Type 0} (xs : List A) → length xs ≡ 0 → xs ≡ []
-none_of [] e = refl
-none_of (x ∷ xs) e = absurd (omega arith)
-
 -- of lists that join to the empty list each is empty
 first_none : {A : Type 0} (xs ys : List A) → xs ++ ys ≡ [] → xs ≡ []
 first_none [] ys e = refl
@@ -48,10 +46,6 @@ no_fault : (b : Bool) (p : Place) (w : List ℕ) → fault_if b p (DuplicateName
 no_fault true p w e = absurd (cc)
 no_fault false p w e = refl
 
-or_false : (a b : Bool) → (a || b) ≡ false → (a ≡ false) × (b ≡ false)
-or_false true b e = absurd (cc)
-or_false false b e = (refl, e)
-
 abbrev spot_of : TypeDefinition → Spot
 spot_of t = record { word = t.name; place = t.place }
 
@@ -67,7 +61,7 @@ unique_after types (x ∷ ds) seen e zero d l =
 unique_after types (x ∷ ds) seen e (suc k) d l =
     let r = rest_none (fault_if (has_word seen x.name) x.place (DuplicateName x.name)) (duplicates (x.name ∷ seen) (map spot_of (map (type_definition types) ds))) e in
     let i = unique_after types ds (x.name ∷ seen) r k d (omega arith) in
-    let o = or_false (bytes_eq x.name (get_or ds k d).name) (has_word seen (get_or ds k d).name) i.0 in (
+    let o = or_parts (bytes_eq x.name (get_or ds k d).name) (has_word seen (get_or ds k d).name) i.0 in (
       o.1,
       λ n. (let z : suc n + k ≡ n + suc k = omega arith in
           ap (λ t. cond t (Some n) (first_from (suc n) ds (get_or ds k d).name)) o.0 ∙ i.1 (suc n) ∙ ap Some z),

@@ -1,8 +1,11 @@
 -- the uses of a node are those of its parts
-use Rattle.std.proofs.Common.{◌≡◌, ℕ, suc, ◌+◌, ◌<◌, ◌≤◌, arith, Bool, true, false, ◌&&◌, List, [], ◌∷◌, ◌++◌, map, flat_map, reverse, length, refl, ap, sym, subst, ◌∙◌, inl, inr}
+use Rattle.std.proofs.Common.{◌≡◌, ℕ, suc, ◌+◌, ◌<◌, ◌≤◌, arith, Bool, true, false, ◌&&◌, List, [], ◌∷◌, ◌++◌, map, reverse, length, refl, ap, sym, subst, ◌∙◌, inl, inr}
 use Rattle.std.specs.List.{AllByRecursion}
 use Rattle.std.proofs.lemmas.List.{append-nil, append_assoc, map-append, reverse-append}
+use Rattle.std.proofs.lemmas.Grind.{flat_map-append}
 use Rattle.xd_base.specs.declared.Place.{Place}
+use Rattle.xd_doc.proofs.Bools.{and_true, and_false, and_join}
+use Rattle.xd_doc.proofs.Lists.{flat_more}
 use Rattle.xd_syntax.specs.Tree.{Tree}
 use Rattle.xd_syntax.specs.Table.{Row, Form, empty_form, text_form, words_form, name_form, elem_form, seq_form, alt_form, star_form, plus_form, opt_form, val_form, tree_at, PartsBelow, CanFollow}
 use Rattle.xd_syntax.specs.Placed.{PlacedTree, Empty_at, placed_seq, placed_alt, place_of, unplaced}
@@ -15,18 +18,6 @@ use Rattle.xd_syntax.proofs.Members.{mem_append}
 use Rattle.xd_rec.specs.Uses.{all_empty, seen, tree_uses, uses_from, placed_use, part_uses, parts_uses, sequence, alternatives, parts_of, own_use, IsListed, AllBelong, size, sizes}
 use Rattle.xd_rec.specs.declared.uses.TopUse.{TopUse}
 use Rattle.xd_rec.specs.declared.uses.Part.{Part}
-
-and_false : (t : Bool) → (t && false) ≡ false
-and_false true = refl
-and_false false = refl
-
-and_assoc : (a b c : Bool) → (a && (b && c)) ≡ ((a && b) && c)
-and_assoc true b c = refl
-and_assoc false b c = refl
-
-and_true : (a : Bool) → (a && true) ≡ a
-and_true true = refl
-and_true false = refl
 
 not_tail_there : (Z : Tree → Bool) (k : ℕ) (t f : Bool) (us : List Use) → map (placed_use t f) (map (seen Z k) (map not_tail us)) ≡ map (placed_use false f) (map (seen Z k) us)
 not_tail_there Z k t f [] = refl
@@ -41,7 +32,7 @@ behind_there : (Z : Tree → Bool) (k : ℕ) (t f : Bool) (T : Tree) (us : List 
     map (placed_use t f) (map (seen Z k) (map (behind_type T) us)) ≡ map (placed_use t (f && Z T)) (map (seen Z k) us)
 behind_there Z k t f T [] = refl
 behind_there Z k t f T (u ∷ us) =
-    let e = and_assoc f (Z T) (all_empty Z u.before) in
+    let e = and_join f (Z T) (all_empty Z u.before) in
     let i = behind_there Z k t f T us in
     let h : placed_use t f (seen Z k (behind_type T u)) ≡ placed_use t (f && Z T) (seen Z k u) =
     ap (λ b. let v : TopUse = record { owner = k; name = u.name; place = u.place; is_tail = t && u.is_tail; is_front = b } in v) e in
@@ -88,13 +79,6 @@ alternative_uses Z types q p (i ∷ (j ∷ js)) =
 -- a repetition
 pub repeated_uses : (Z : Tree → Bool) (k : ℕ) (t f : Bool) (T : PlacedTree) → map (placed_use false f) (tree_uses Z k T) ≡ map (placed_use t f) (map (seen Z k) (map not_tail (top_uses T)))
 repeated_uses Z k t f T = sym (not_tail_there Z k t f (top_uses T))
-
-pub flat_append : {A B : Type 0} (f : A → List B) (xs ys : List A) → flat_map f (xs ++ ys) ≡ flat_map f xs ++ flat_map f ys
-flat_append f [] ys = refl
-flat_append f (x ∷ xs) ys = ap (λ zs. f x ++ zs) (flat_append f xs ys) ∙ sym (append_assoc (f x) (flat_map f xs) (flat_map f ys))
-
-pub flat_push : {A B : Type 0} (f : A → List B) (xs : List A) (y : A) → flat_map f (xs ++ y ∷ []) ≡ flat_map f xs ++ f y
-flat_push f xs y = flat_append f xs (y ∷ []) ∙ ap (λ zs. flat_map f xs ++ zs) (append-nil (f y))
 
 pub sizes-append : (types : List Row) (ps qs : List Part) → sizes types (ps ++ qs) ≡ sizes types ps + sizes types qs
 sizes-append types [] qs = omega arith
@@ -247,10 +231,10 @@ listed_uses Z types q old new before after i =
     let o = own_use q p f in
     ap (λ ps. parts_uses Z types ps ++ reverse after) i.parts
     ∙ ap (λ us. parts_uses Z types (old ++ parts_of Z types q f) ++ reverse us) i.uses
-    ∙ ap (λ us. us ++ reverse (before ++ o)) (flat_append (part_uses Z types) old (parts_of Z types q f))
+    ∙ ap (λ us. us ++ reverse (before ++ o)) (flat_map-append (part_uses Z types) old (parts_of Z types q f))
     ∙ ap (λ us. (a ++ b) ++ us) (own_reversed q p f before)
     ∙ sym (append_assoc (a ++ b) o (reverse before))
-    ∙ ap (λ us. us ++ reverse before) (append_assoc a b o ∙ ap (λ us. a ++ us) (form_uses Z types q p f ∙ ap (λ T. map (placed_use q.is_tail q.is_front) (tree_uses Z q.owner T)) (sym i.placed)) ∙ sym (flat_push (part_uses Z types) old q))
+    ∙ ap (λ us. us ++ reverse before) (append_assoc a b o ∙ ap (λ us. a ++ us) (form_uses Z types q p f ∙ ap (λ T. map (placed_use q.is_tail q.is_front) (tree_uses Z q.owner T)) (sym i.placed)) ∙ sym (flat_more (part_uses Z types) old q))
 
 pub listed_belong : (Z : Tree → Bool) (types : List Row) (q : Part) (old new : List Part) (before after : List TopUse) → IsListed Z types q old new before after → AllBelong types old → q.at < length types →
     AllBelong types new

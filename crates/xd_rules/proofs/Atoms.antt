@@ -3,8 +3,8 @@
 use Rattle.std.proofs.Common.{ℕ, ◌≡◌, Bool, true, false, cond, List, [], ◌∷◌, ◌++◌, map, inl, refl, ◌∙◌, subst, nat_eq}
 use Rattle.std.specs.List.{flat_map}
 use Rattle.std.specs.Cmp.Lexicographic.{pointwise}
-use Rattle.std.proofs.lemmas.Slice.Eq.{bytes_eq-Decides}
 use Rattle.xd_doc.specs.Classes.{NameClass, class_has, is_named}
+use Rattle.xd_doc.proofs.SortedNames.{same_is, is_same}
 use Rattle.xd_rules.specs.declared.atom.Atom.{Atom}
 use Rattle.xd_rules.specs.declared.atom.Atom.TheVariants.{Label, OtherLabel, Text, OtherText}
 use Rattle.xd_rules.specs.Members.{IsOneOf}
@@ -26,17 +26,11 @@ text_atom_by false t = OtherText
 abbrev pub text_atom : Named → List ℕ → Atom
 text_atom named t = text_atom_by (is_named named.texts t) t
 
-pub same_name : (l m : List ℕ) → pointwise nat_eq l m ≡ true → l ≡ m
-same_name l m e = (bytes_eq-Decides l m).0 e
-
-pub name_same : (l : List ℕ) → pointwise nat_eq l l ≡ true
-name_same l = (bytes_eq-Decides l l).1 refl
-
 pub names_one_of : (l : List ℕ) (names : List (List ℕ)) → IsOneOf l names → is_named names l ≡ true
-names_one_of l names h = any-one_of (λ name. pointwise nat_eq name l) l names h (name_same l)
+names_one_of l names h = any-one_of (λ name. pointwise nat_eq name l) l names h (is_same l)
 
 pub one_of_names : (l : List ℕ) (names : List (List ℕ)) → is_named names l ≡ true → IsOneOf l names
-one_of_names l names e = let m = one_of-any (λ name. pointwise nat_eq name l) names e in subst (λ w. IsOneOf w names) (same_name m.0 l m.2) m.1
+one_of_names l names e = let m = one_of-any (λ name. pointwise nat_eq name l) names e in subst (λ w. IsOneOf w names) (same_is m.0 l m.2) m.1
 
 -- all these names are among the others
 abbrev pub AreAllNamed : List (List ℕ) → List (List ℕ) → Type 0

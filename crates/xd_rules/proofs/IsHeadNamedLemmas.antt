@@ -8,6 +8,7 @@ use Rattle.std.proofs.lemmas.List.{take_more, take_all, append-nil, map-append, 
 use Rattle.std.proofs.lemmas.List.Folds.{flat_map-map}
 use Rattle.std.proofs.lemmas.Grind.{flat_map-append}
 use Rattle.xd_doc.specs.Classes.{is_named}
+use Rattle.xd_doc.proofs.Lists.{all_append}
 use Rattle.xd_auto.specs.declared.auto.State.{State}
 use Rattle.xd_auto.specs.declared.auto.LabelMove.{LabelMove}
 use Rattle.xd_auto.specs.declared.auto.TextMove.{TextMove}
@@ -109,10 +110,6 @@ wants_keys named k (h ∷ hs) =
     one : (atoms : List Atom) → map want_key (map (want_of k h) atoms) ≡ map (keyed k) atoms
     one [] = refl
     one (a ∷ as') = ap (λ (ks : List CaseKey). keyed k a ∷ ks) (one as')
-
-all_append : {X : Type 0} (P : X → Type 0) (xs ys : List X) → AllByRecursion P xs → AllByRecursion P ys → AllByRecursion P (xs ++ ys)
-all_append P [] ys h k = k
-all_append P (x ∷ xs) ys h k = (h.0, all_append P xs ys h.1 k)
 
 pub wants_are : (a : Automaton) (left : State) (named : Named) → AllByRecursion (IsCaseOf a left) (wants_of named 1 (heads_of a left))
 wants_are a left named = go 0 (heads_of a left) (λ i h e. let q : i ≡ 0 + i = omega arith in subst (λ (j : ℕ). slice_get (heads_of a left) j ≡ Some h) q e)

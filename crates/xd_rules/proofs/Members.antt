@@ -112,3 +112,7 @@ one_of-wanted named k (g ∷ hs) zero h a n e m q =
 one_of-wanted named k (g ∷ hs) (suc i) h a n e m q =
     one_of-append_right (keyed n a) (map (keyed k) (atoms_of named g)) (wanted_cases named (suc k) hs)
     (one_of-wanted named (suc k) hs i h a n e m (omega arith))
+
+pub only_one : {X : Type 0} (x y : X) → IsOneOf x (y ∷ []) → x ≡ y
+only_one x y (inl e) = sym e
+only_one x y (inr e) = absurd e

@@ -3,6 +3,8 @@ use Rattle.std.proofs.Common.{◌≡◌, ◌⊎◌, ◌↔◌, inl, inr, ℕ, ze
 use Rattle.std.specs.List.{AllByRecursion}
 use Rattle.xd_doc.specs.Document.{Document, empty, text, element, join}
 use Rattle.xd_doc.specs.Classes.{LabelClass, TextClass, class_has}
+use Rattle.xd_doc.proofs.Bools.{and_true, or_cases, and_assoc}
+use Rattle.xd_doc.proofs.Logic.{sum_map}
 use Rattle.xd_syntax.specs.Tree.{Tree, Empty, Text, Words, Elem, Alt, Star, Plus, Opt, seq_of}
 use Rattle.xd_syntax.specs.TreeForms.{alt_of}
 use Rattle.xd_syntax.specs.Table.{Row}
@@ -10,10 +12,10 @@ use Rattle.xd_syntax.specs.Types.{tree}
 use Rattle.xd_syntax.specs.declared.types.TypeId.{TypeId}
 use Rattle.xd_meaning.specs.FitsWithin.{no_turn}
 use Rattle.xd_same_types.specs.Same.{Meaning, FitsAs, MeansSame, SomeFits, CanBeEmpty, TakesIn, AddsFit, AddsFits, IsChoice, trees, tops_only, all_tops_only}
-use Rattle.xd_same_types.proofs.Tops.{and_same, and_assoc, and_true, and_itself, and_swap, tops_alt, tops_push, tops_set}
+use Rattle.xd_same_types.proofs.Tops.{and_same, and_itself, and_swap, tops_alt, tops_push, tops_set}
 use Rattle.xd_same_types.proofs.Splits.{rep_one, plus_star, star_cases}
 use Rattle.xd_same_types.proofs.Laws.{some_alt, seq_cons}
-use Rattle.xd_same_types.proofs.Facts.{or_map, or_left, or_right, or_swap, or_none, none_or, iff_then, iff_back}
+use Rattle.xd_same_types.proofs.Facts.{or_left, or_right, or_swap, or_none, none_or, iff_then, iff_back}
 
 -- what can be empty
 pub empty_empty : (T : Tree) → T ≡ Empty → CanBeEmpty T
@@ -100,10 +102,6 @@ second_of_both {T} {U} t = record { both = λ N d. (λ f. inr f, λ f. back N d 
     back N d (inl f) = t.fits N d f
     back N d (inr f) = f
 
-or_true : (a b : Bool) → (a || b) ≡ true → (a ≡ true) ⊎ (b ≡ true)
-or_true true b h = inl refl
-or_true false b h = inr h
-
 -- elements of two classes
 pub united_elements : (c e k : LabelClass) (T : Tree) → ((l : List ℕ) → class_has c l ≡ (class_has e l || class_has k l)) → MeansSame (Elem c T) (Alt (Elem e T) (Elem k T))
 united_elements c e k T h = record { both = λ N d. (λ f. to N d f, λ f. back N d f); tops = λ known. refl }
@@ -111,7 +109,7 @@ united_elements c e k T h = record { both = λ N d. (λ f. to N d f, λ f. back 
     to : (N : Meaning) (d : Document) → FitsAs N (Elem c T) d → FitsAs N (Elem e T) d ⊎ FitsAs N (Elem k T) d
     to N empty f = absurd f
     to N (text s r) f = absurd f
-    to N (element l i r) f = elim (or_true (class_has e l) (class_has k l) (sym (h l) ∙ f.1)) [
+    to N (element l i r) f = elim (or_cases (class_has e l) (class_has k l) (sym (h l) ∙ f.1)) [
       | inl a ↦ inl (f.0, a, f.2)
       | inr a ↦ inr (f.0, a, f.2)
     ]
@@ -138,7 +136,7 @@ united_elements c e k T h = record { both = λ N d. (λ f. to N d f, λ f. back 
 pub some_push : (N : Meaning) (d : Document) (Ts : List Tree) (T : Tree) → SomeFits N d (Ts ++ T ∷ []) ↔ (SomeFits N d Ts ⊎ FitsAs N T d)
 some_push N d [] T = iff_then or_none (iff_back none_or)
 some_push N d (U ∷ Us) T =
-    let i = some_push N d Us T in (λ h. or_left (or_map (λ k. k) i.0 h), λ h. or_map (λ k. k) i.1 (or_right h))
+    let i = some_push N d Us T in (λ h. or_left (sum_map (λ k. k) i.0 h), λ h. sum_map (λ k. k) i.1 (or_right h))
 
 pub adds_push : (Ts : List Tree) (T : Tree) → AddsFit Ts T (Ts ++ T ∷ [])
 adds_push Ts T = record { both = λ N d. some_push N d Ts T; tops = λ known. tops_push known Ts T }
@@ -148,11 +146,11 @@ some_put : (N : Meaning) (d : Document) (Ts : List Tree) (k : ℕ) (o q T : Tree
 some_put N d [] k o q T l e h = absurd (omega arith)
 some_put N d (U ∷ Us) zero o q T l e h =
     let g : FitsAs N q d ↔ (FitsAs N U d ⊎ FitsAs N T d) = subst (λ x. FitsAs N q d ↔ (FitsAs N x d ⊎ FitsAs N T d)) e h in
-    (λ k. or_swap (or_map g.0 (λ s. s) k), λ k. or_map g.1 (λ s. s) (or_swap k))
+    (λ k. or_swap (sum_map g.0 (λ s. s) k), λ k. sum_map g.1 (λ s. s) (or_swap k))
 some_put N d (U ∷ Us) (suc k) o q T l e h =
     let m : k < length Us = omega arith in
     let i = some_put N d Us k o q T m e h in
-    (λ s. or_left (or_map (λ x. x) i.0 s), λ s. or_map (λ x. x) i.1 (or_right s))
+    (λ s. or_left (sum_map (λ x. x) i.0 s), λ s. sum_map (λ x. x) i.1 (or_right s))
 
 pub adds_put : (Ts : List Tree) (k : ℕ) (o q T : Tree) → k < length Ts → o ≡ get_or Ts k o → MeansSame q (Alt o T) → AddsFit Ts T (set Ts k q)
 adds_put Ts k o q T l e s = record { both = λ N d. some_put N d Ts k o q T l e (s.both N d); tops = λ known. tops_set known Ts k o q T l e (s.tops known) }
@@ -160,7 +158,7 @@ adds_put Ts k o q T l e s = record { both = λ N d. some_put N d Ts k o q T l e 
 -- one alternative more
 pub alt_push : (T : Tree) (Ts : List Tree) (U : Tree) → MeansSame (alt_of ((T ∷ Ts) ++ U ∷ [])) (Alt (alt_of (T ∷ Ts)) U)
 alt_push T Ts U = record {
-  both = λ N d. iff_then (some_alt T (Ts ++ U ∷ []) N d) (iff_then (some_push N d (T ∷ Ts) U) (or_map (some_alt T Ts N d).1 (λ f. f), or_map (some_alt T Ts N d).0 (λ f. f)));
+  both = λ N d. iff_then (some_alt T (Ts ++ U ∷ []) N d) (iff_then (some_push N d (T ∷ Ts) U) (sum_map (some_alt T Ts N d).1 (λ f. f), sum_map (some_alt T Ts N d).0 (λ f. f)));
   tops = λ known. tops_alt known (T ∷ (Ts ++ U ∷ [])) ∙ tops_push known (T ∷ Ts) U ∙ ap (λ x. x && tops_only known U) (sym (tops_alt known (T ∷ Ts)));
 }
 
@@ -171,8 +169,8 @@ pub adds_more : (old more mid new : List Tree) (T : Tree) → AddsFits old more 
 adds_more old more mid new T a b = record {
   both = λ N d.
       let i = some_push N d more T in (
-        λ h. or_map (λ x. x) i.1 (or_right (or_map (a.both N d).0 (λ x. x) ((b.both N d).0 h))),
-        λ h. (b.both N d).1 (or_map (a.both N d).1 (λ x. x) (or_left (or_map (λ x. x) i.0 h))),
+        λ h. sum_map (λ x. x) i.1 (or_right (sum_map (a.both N d).0 (λ x. x) ((b.both N d).0 h))),
+        λ h. (b.both N d).1 (sum_map (a.both N d).1 (λ x. x) (or_left (sum_map (λ x. x) i.0 h))),
       );
   tops = λ known.
       b.tops known ∙ ap (λ x. x && tops_only known T) (a.tops known) ∙ and_assoc (all_tops_only known old) (all_tops_only known more) (tops_only known T)
@@ -231,7 +229,7 @@ choice_both T U Ts Us made a b h k s = record { both = λ N d. (λ f. to N d f, 
       | inl g ↦ inl ((h.both N d).1 (inl g))
       | inr g ↦ inr ((k.both N d).1 (inl g))
     ]
-    back N d (inr f) = elim (or_true a b f.0) [
+    back N d (inr f) = elim (or_cases a b f.0) [
       | inl q ↦ inl ((h.both N d).1 (inr (q, f.1)))
       | inr q ↦ inr ((k.both N d).1 (inr (q, f.1)))
     ]
@@ -241,7 +239,7 @@ pub choice_again : (T : Tree) (Ts made : List Tree) (e : Bool) → IsChoice T Ts
 choice_again T Ts made e h a = record {
   both = λ N d.
       let s = iff_then (a.both N d) none_or in
-      iff_then (h.both N d) (or_map s.1 (λ f. f), or_map s.0 (λ f. f));
+      iff_then (h.both N d) (sum_map s.1 (λ f. f), sum_map s.0 (λ f. f));
   tops = λ known. h.tops known ∙ sym (a.tops known);
 }
 

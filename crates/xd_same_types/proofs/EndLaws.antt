@@ -1,16 +1,15 @@
 -- Laws of alternatives that end in the same parts.
-use Rattle.std.proofs.Common.{◌≡◌, ◌⊎◌, inl, inr, ℕ, zero, suc, ◌-◌, Bool, true, false, ◌&&◌, refl, sym, ap, ◌∙◌, List, [], ◌∷◌, ◌++◌, take, drop, length, Option, None, Some}
+use Rattle.std.proofs.Common.{◌≡◌, ◌⊎◌, inl, inr, ℕ, zero, suc, ◌-◌, Bool, true, false, ◌&&◌, refl, sym, ap, ◌∙◌, List, [], ◌∷◌, ◌++◌, take, drop, length}
 use Rattle.std.proofs.lemmas.List.{take-append-drop}
 use Rattle.std.specs.List.{AllByRecursion}
-use Rattle.std.specs.Option.{IfSome}
 use Rattle.xd_doc.specs.Document.{Document}
+use Rattle.xd_doc.proofs.Lists.{drop_whole}
 use Rattle.xd_syntax.specs.Tree.{Tree, Seq, Alt, seq_of}
 use Rattle.xd_syntax.specs.Table.{Row, tree_at}
 use Rattle.xd_syntax.specs.Types.{BelongsTo, tree}
 use Rattle.xd_syntax.specs.declared.types.TypeId.{TypeId}
 use Rattle.xd_same_types.specs.Grown.{GrowsTypes}
 use Rattle.xd_same_types.specs.Same.{Meaning, FitsAs, MeansSame, AreSeqParts, trees, tops_only}
-use Rattle.xd_same_types.proofs.Ids.{drop_whole}
 use Rattle.xd_same_types.proofs.Laws.{alt_same, same_at, same_back, same_of, same_then, seq_append, seq_same}
 use Rattle.xd_same_types.proofs.Tables.{kept_tree, kept_trees, seq_belong, trees_append}
 
@@ -68,7 +67,3 @@ ends_joined a m n am mn one two ahead end other also M bt ba be q f g h =
 -- the last items, as slices give them
 pub last_items : {A : Type 0} (xs ys zs : List A) (n : ℕ) → zs ≡ take (length ys - n) (drop n ys) → ys ≡ xs → zs ≡ drop n xs
 last_items xs ys zs n e f = e ∙ drop_whole ys n ∙ ap (drop n) f
-
-pub some_map : {T : Type 0} (o : Option T) (P Q : T → Type 0) → ((x : T) → P x → Q x) → IfSome o P → IfSome o Q
-some_map None P Q f h = tt
-some_map (Some x) P Q f h = f x h

@@ -1,8 +1,9 @@
 -- Lists that have the same at each place.
-use Rattle.std.proofs.Common.{◌≡◌, ℕ, zero, suc, ◌+◌, ◌<◌, ◌≤◌, nat_eq, Bool, false, ◌-◌, ◌++◌, take, sym, ap, ◌∙◌, List, [], ◌∷◌, length, get_or, refl, arith, drop, length-drop, Result, Ok, Err}
+use Rattle.std.proofs.Common.{◌≡◌, ℕ, zero, suc, ◌+◌, ◌<◌, ◌≤◌, nat_eq, Bool, false, ◌-◌, ◌++◌, take, sym, ap, ◌∙◌, List, [], ◌∷◌, length, get_or, refl, arith, Result, Ok, Err}
 use Rattle.std.specs.Result.{IfOk, OnOk}
-use Rattle.std.proofs.lemmas.List.{take_more, take_all}
+use Rattle.std.proofs.lemmas.List.{take_more}
 use Rattle.std.proofs.lemmas.Bool.Decides.{nat_tests}
+use Rattle.xd_doc.proofs.Lists.{same_at}
 
 pub same_at_each : {A : Type 0} (xs ys : List A) → length xs ≡ length ys → ((k : ℕ) (d : A) → k < length xs → get_or xs k d ≡ get_or ys k d) → xs ≡ ys
 same_at_each [] [] l h = refl
@@ -39,24 +40,8 @@ on_map (Err e) P Q f h = tt
 pub take_read : {A : Type 0} (xs : List A) (i : ℕ) (x : A) → i < length xs → x ≡ get_or xs i x → take (i + 1) xs ≡ take i xs ++ x ∷ []
 take_read xs i x l e = take_more xs i x l ∙ ap (λ y. take i xs ++ y ∷ []) (sym e)
 
--- what stands at a place, read with another default
-pub default_free : {A : Type 0} (xs : List A) (k : ℕ) (d e : A) → k < length xs → get_or xs k d ≡ get_or xs k e
-default_free [] k d e l = absurd (omega arith)
-default_free (x ∷ xs) zero d e l = refl
-default_free (x ∷ xs) (suc k) d e l = let m : k < length xs = omega arith in default_free xs k d e m
-
 pub got : {A : Type 0} (xs : List A) (k : ℕ) (d : A) → k < length xs → get_or xs k d ≡ get_or xs k (get_or xs k d)
-got xs k d l = default_free xs k d (get_or xs k d) l
+got xs k d l = same_at xs k d (get_or xs k d) l
 
 pub differs : (m n : ℕ) → (m ≡ n → ⊥) → nat_eq m n ≡ false
 differs m n h = grind (arith, nat_tests)
-
-pub on_all : {T E : Type 0} (r : Result T E) (P : Type 0) → P → OnOk r P
-on_all (Ok x) P p = p
-on_all (Err e) P p = tt
-
-pub same_read : {A : Type 0} (xs : List A) (k : ℕ) (x y : A) → k < length xs → x ≡ get_or xs k x → y ≡ get_or xs k y → x ≡ y
-same_read xs k x y l e f = e ∙ default_free xs k x y l ∙ sym f
-
-pub drop_whole : {A : Type 0} (xs : List A) (n : ℕ) → take (length xs - n) (drop n xs) ≡ drop n xs
-drop_whole xs n = let l : length (drop n xs) ≤ length xs - n = omega (arith, length-drop n xs) in take_all (length xs - n) (drop n xs) l

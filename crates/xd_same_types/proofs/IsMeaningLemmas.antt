@@ -1,15 +1,18 @@
 -- Where each name means what its definition does, and no definition uses a name outside of every
 -- label but `Any`, the documents that fit a type are those that fit it where names have these
 -- meanings.
-use Rattle.std.proofs.Common.{◌≡◌, inl, inr, ℕ, zero, suc, ◌+◌, ◌<◌, arith, Bool, true, false, ◌&&◌, refl, sym, ap, subst, List, [], Some}
+use Rattle.std.proofs.Common.{◌≡◌, inl, inr, ℕ, zero, suc, ◌<◌, arith, true, refl, sym, ap, subst, List, [], Some}
 use Rattle.xd_doc.specs.Document.{Document, empty, text, element, join, size}
-use Rattle.xd_doc.specs.Classes.{LabelClass, TextClass}
+use Rattle.xd_doc.specs.Classes.{LabelClass}
+use Rattle.xd_doc.proofs.Bools.{and_left, and_right}
 use Rattle.xd_syntax.specs.Words.{has_word}
 use Rattle.xd_syntax.specs.Tree.{Tree, Empty, Text, Words, Name, Elem, Seq, Alt, Star, Plus, Opt, Val, Definitions, body}
 use Rattle.xd_syntax.specs.Fits.{Fits, Split}
 use Rattle.xd_syntax.specs.Fits as F
-use Rattle.xd_meaning.specs.FitsWithin.{Repeats, no_turn, one_turn, IsOneOf}
+use Rattle.xd_meaning.specs.FitsWithin.{Repeats, no_turn, one_turn}
 use Rattle.xd_laws.proofs.FitsLaws.{text_fits}
+use Rattle.xd_laws.proofs.Unfoldings.{size_join}
+use Rattle.xd_laws.proofs.Within.{words_fit}
 use Rattle.xd_same_types.specs.Same.{Meaning, FitsAs, tops_only}
 use Rattle.xd_same_types.specs.Names.{IsMeaning, AreGuarded, NamesSettle}
 
@@ -29,24 +32,6 @@ as_meant E N m (F.fits_plus a b e f g) = (a, b, e, as_meant E N m f, as_meant E 
 as_meant E N m F.fits_absent = inl refl
 as_meant E N m (F.fits_present f) = inr (as_meant E N m f)
 as_meant E N m (F.fits_val f) = as_meant E N m f
-
-words_fit : (E : Definitions) (w : TextClass) (d : Document) → IsOneOf w d → Fits E (Words w) d
-words_fit E w empty p = absurd p
-words_fit E w (text s d) p = subst (λ r. Fits E (Words w) (text s r)) (sym p.0) (F.fits_words p.1)
-words_fit E w (element l k d) p = absurd p
-
-size_join : (a b : Document) → size (join a b) ≡ size a + size b
-size_join empty b = omega arith
-size_join (text s a) b = let i = size_join a b in omega arith
-size_join (element l c a) b = let i = size_join a b in omega arith
-
-and_left : (a b : Bool) → (a && b) ≡ true → a ≡ true
-and_left true b h = refl
-and_left false b h = h
-
-and_right : (a b : Bool) → (a && b) ≡ true → b ≡ true
-and_right true b h = h
-and_right false b h = cc
 
 -- documents of fewer items than n that fit where names have meanings fit
 abbrev FitBelow : Definitions → Meaning → ℕ → Tree → Type 0

@@ -2,11 +2,13 @@
 use Rattle.std.proofs.Common.{◌≡◌, ◌⊎◌, ◌↔◌, inl, inr, true, refl, sym, ◌∙◌, subst, List, [], ◌∷◌, ◌++◌}
 use Rattle.xd_doc.specs.Document.{Document, empty, text, element, has_item}
 use Rattle.xd_doc.specs.Classes.{LabelClass}
+use Rattle.xd_doc.proofs.Bools.{and_true, and_assoc}
+use Rattle.xd_doc.proofs.Logic.{sum_map}
 use Rattle.xd_syntax.specs.Tree.{Tree, Empty, Elem, Seq, Alt, Star, Plus, Opt, seq_of}
 use Rattle.xd_syntax.specs.TreeForms.{alt_of}
 use Rattle.xd_meaning.specs.FitsWithin.{Repeats, no_turn}
 use Rattle.xd_same_types.specs.Same.{Meaning, FitsAs, MeansSame, TakesItem, SomeFits, tops_only}
-use Rattle.xd_same_types.proofs.Tops.{and_same, and_assoc, and_true, and_itself}
+use Rattle.xd_same_types.proofs.Tops.{and_same, and_itself}
 use Rattle.xd_same_types.proofs.Splits.{split_map, split_left, split_right, none_then, then_only, then_none, first_only, item_first, item_second, rep_one, rep_map, front_plus, back_plus, twice, once_more}
 
 pub same_refl : (T : Tree) → MeansSame T T
@@ -36,10 +38,6 @@ seq_same {T} {U} {V} {W} s t = record {
   );
   tops = λ known. and_same (s.tops known) (t.tops known);
 }
-
-sum_map : {A B C D : Type 0} → (A → C) → (B → D) → A ⊎ B → C ⊎ D
-sum_map f g (inl a) = inl (f a)
-sum_map f g (inr b) = inr (g b)
 
 pub alt_same : {T U V W : Tree} → MeansSame T V → MeansSame U W → MeansSame (Alt T U) (Alt V W)
 alt_same s t = record {

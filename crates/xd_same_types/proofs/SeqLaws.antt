@@ -2,6 +2,7 @@
 use Rattle.std.proofs.Common.{◌≡◌, ℕ, ◌+◌, ◌<◌, get_or, sym, ap, ◌∙◌, List, [], ◌∷◌, ◌++◌, take, drop, length, append_assoc}
 use Rattle.std.proofs.lemmas.List.{take-append-drop}
 use Rattle.std.specs.Prelude.{◌||◌}
+use Rattle.xd_doc.proofs.Lists.{all_take, all_there}
 use Rattle.xd_syntax.specs.Tree.{Tree, Empty, Seq, Star, Plus, seq_of, is_empty}
 use Rattle.xd_syntax.specs.TreeForms.{is_seq}
 use Rattle.xd_syntax.specs.Table.{Row, IsSeqPart}
@@ -10,7 +11,7 @@ use Rattle.xd_syntax.specs.Types.{BelongsTo, tree}
 use Rattle.xd_syntax.specs.declared.types.TypeId.{TypeId}
 use Rattle.xd_same_types.specs.Same.{EndsRepeated, MeansSame, AreSeqParts, trees}
 use Rattle.xd_same_types.proofs.Laws.{same_refl, same_of, same_back, same_then, seq_same, seq_assoc, seq_append, seq_push, seq_cons, one_star, star_one, seq_empty, same_at}
-use Rattle.xd_same_types.proofs.Tables.{kept_trees, kept_tree, seq_belong, trees_append, all_take, all_get}
+use Rattle.xd_same_types.proofs.Tables.{kept_trees, kept_tree, seq_belong, trees_append}
 use Rattle.xd_same_types.proofs.Ids.{take_read}
 
 gathered_trees : (A I W : List Tree) (B more plus : Tree) → seq_of I ≡ B → more ≡ Star B → plus ≡ Plus B → W ≡ A ++ I → MeansSame (Seq (seq_of A) plus) (Seq (seq_of W) more)
@@ -59,7 +60,7 @@ seq_first rs parts one e = same_then (same_of e) (same_back (seq_empty (tree rs 
 pub seq_more : (rs now : List Row) → GrowsTypes rs now → (one P Q : Tree) (items : List TypeId) (i : ℕ) (part : TypeId) → AreSeqParts rs items → i < length items → part ≡ get_or items i part →
     MeansSame P (Seq one (seq_of (trees rs (take i items)))) → MeansSame Q (Seq P (tree now part)) → MeansSame Q (Seq one (seq_of (trees rs (take (i + 1) items))))
 seq_more rs now keeps one P Q items i part h l e s t =
-    let b : BelongsTo rs part = all_get (BelongsTo rs) items i part (seq_belong rs items h) l e in
+    let b : BelongsTo rs part = all_there (BelongsTo rs) items i part (seq_belong rs items h) l e in
     let k : tree now part ≡ tree rs part = kept_tree rs now keeps part b in
     same_then t (same_then (seq_same s (same_of k)) (same_then (seq_assoc one (seq_of (trees rs (take i items))) (tree rs part))
     (seq_same (same_refl one) (same_then (same_back (seq_push (trees rs (take i items)) (tree rs part)))

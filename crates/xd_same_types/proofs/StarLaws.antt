@@ -1,6 +1,7 @@
 -- Laws of what is repeated.
 use Rattle.std.proofs.Common.{◌≡◌, ◌⊎◌, inl, inr, ℕ, ◌<◌, ◌&&◌, refl, sym, ap, ◌∙◌, subst, List, [], ◌∷◌, ◌++◌, length, take, get_or, ◌+◌, arith}
 use Rattle.xd_doc.specs.Document.{Document, empty}
+use Rattle.xd_doc.proofs.Lists.{all_there}
 use Rattle.xd_syntax.specs.Tree.{Tree, Star, Plus, Opt}
 use Rattle.xd_syntax.specs.TreeForms.{alt_of}
 use Rattle.xd_meaning.specs.FitsWithin.{Repeats, no_turn, one_turn}
@@ -15,7 +16,7 @@ use Rattle.xd_syntax.specs.Types.{BelongsTo, tree}
 use Rattle.xd_syntax.specs.declared.types.TypeId.{TypeId}
 use Rattle.xd_same_types.specs.Same.{AreAltParts, trees}
 use Rattle.xd_same_types.proofs.Ids.{take_read}
-use Rattle.xd_same_types.proofs.Tables.{kept_tree, alt_belong, trees_append, all_get}
+use Rattle.xd_same_types.proofs.Tables.{kept_tree, alt_belong, trees_append}
 
 pub strip_none : (T : Tree) → RepeatSame T T
 strip_none T = record { once = λ N d f. f; again = λ N d f. rep_one (FitsAs N T) d f; tops = λ known. refl }
@@ -120,6 +121,6 @@ stripped_star (M ∷ Ms) (U ∷ Us) I T s e l r = stars_same (strip_then (record
 pub strip_more : (a m b : List Row) → GrowsTypes a m → (now new parts : List TypeId) (i : ℕ) (part : TypeId) → AreAltParts a parts → i < length parts → part ≡ get_or parts i part →
     AreStripped (trees m now) (trees a (take i parts)) → AddsStripped (trees m now) (tree m part) (trees b new) → AreStripped (trees b new) (trees a (take (i + 1) parts))
 strip_more a m b am now new parts i part h l e s t =
-    let bp : BelongsTo a part = all_get (BelongsTo a) parts i part (alt_belong a parts h) l e in
+    let bp : BelongsTo a part = all_there (BelongsTo a) parts i part (alt_belong a parts h) l e in
     subst (AreStripped (trees b new)) (sym (ap (trees a) (take_read parts i part l e) ∙ trees_append a (take i parts) (part ∷ [])))
     (stripped_more (trees m now) (trees a (take i parts)) (trees b new) (tree a part) s (subst (λ x. AddsStripped (trees m now) x (trees b new)) (kept_tree a m am part bp) t))

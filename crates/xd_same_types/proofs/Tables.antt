@@ -1,5 +1,5 @@
 -- Tables of types that grow.
-use Rattle.std.proofs.Common.{◌≡◌, ℕ, suc, zero, ◌<◌, ◌≤◌, arith, refl, sym, ap, ◌∙◌, subst, List, [], ◌∷◌, ◌++◌, map, length, take, drop, get_or, set, length-append, append_assoc, append-nil, true, false, Vec, Global}
+use Rattle.std.proofs.Common.{◌≡◌, ℕ, suc, zero, ◌<◌, ◌≤◌, arith, refl, sym, ap, ◌∙◌, subst, List, [], ◌∷◌, ◌++◌, map, length, take, drop, get_or, set, append-nil, true, false, Vec, Global}
 use Rattle.std.proofs.lemmas.List.{take-append-drop}
 use Rattle.std.specs.Prelude.{◌||◌}
 use Rattle.std.specs.List.{AllByRecursion}
@@ -10,33 +10,24 @@ use Rattle.xd_syntax.specs.Types.{BelongsTo, tree, type_numbers, form_of}
 use Rattle.xd_syntax.specs.declared.types.TypeId.{TypeId}
 use Rattle.xd_syntax.specs.declared.types.TypeForm.{TypeForm}
 use Rattle.xd_syntax.specs.declared.types.TypeForm.TheVariants as F
-use Rattle.xd_syntax.proofs.Trees.{tree_kept}
+use Rattle.xd_syntax.proofs.TableRows.{KeepsRows-trans, KeepsRows-length, KeepsRows-tree}
 use Rattle.xd_same_types.specs.Grown.{GrowsTypes}
 use Rattle.xd_same_types.specs.Same.{trees, AreSeqParts, AreAltParts}
 
 pub keeps_refl : (rs : List Row) → GrowsTypes rs rs
 keeps_refl rs = record { rows = record { more = []; grown = sym (append-nil rs) }; names = λ known h n. n }
 
-rows_then : (a b c : List Row) → KeepsRows a b → KeepsRows b c → KeepsRows a c
-rows_then a b c k l = record { more = k.more ++ l.more; grown = l.grown ∙ ap (λ xs. xs ++ l.more) k.grown ∙ append_assoc a k.more l.more }
-
 pub keeps_then : (a b c : List Row) → GrowsTypes a b → GrowsTypes b c → GrowsTypes a c
-keeps_then a b c k l = record { rows = rows_then a b c k.rows l.rows; names = λ known h n. l.names known h (k.names known h n) }
-
-rows_length : (a b : List Row) → KeepsRows a b → length a ≤ length b
-rows_length a b k = let e : length b ≡ length (a ++ k.more) = ap length k.grown in omega (arith, length-append a k.more)
+keeps_then a b c k l = record { rows = KeepsRows-trans a b c k.rows l.rows; names = λ known h n. l.names known h (k.names known h n) }
 
 pub kept_length : (a b : List Row) → GrowsTypes a b → length a ≤ length b
-kept_length a b k = rows_length a b k.rows
+kept_length a b k = KeepsRows-length a b k.rows
 
 pub kept_belongs : (a b : List Row) → GrowsTypes a b → (id : TypeId) → BelongsTo a id → BelongsTo b id
 kept_belongs a b k id h = let l = kept_length a b k in omega arith
 
-rows_at : (a b : List Row) → KeepsRows a b → (i : ℕ) → i < length a → tree_at b i ≡ tree_at a i
-rows_at a b k i h = subst (λ xs. tree_at xs i ≡ tree_at a i) (sym k.grown) (tree_kept a k.more i h)
-
 pub kept_at : (a b : List Row) → GrowsTypes a b → (i : ℕ) → i < length a → tree_at b i ≡ tree_at a i
-kept_at a b k i h = rows_at a b k.rows i h
+kept_at a b k i h = KeepsRows-tree a b k.rows i h
 
 pub kept_tree : (a b : List Row) → GrowsTypes a b → (id : TypeId) → BelongsTo a id → tree b id ≡ tree a id
 kept_tree a b k id h = kept_at a b k id.at h
@@ -47,15 +38,15 @@ kept_trees a b k (id ∷ ids) h = let e = kept_tree a b k id h.0 in let i = kept
 
 rows_seq_part : (a b : List Row) → KeepsRows a b → (id : TypeId) → IsSeqPart a id.at → IsSeqPart b id.at
 rows_seq_part a b k id h =
-    let l = rows_length a b k in
-    (omega arith, ap (λ (T : Tree). is_seq T || is_empty T) (rows_at a b k id.at h.0) ∙ h.1)
+    let l = KeepsRows-length a b k in
+    (omega arith, ap (λ (T : Tree). is_seq T || is_empty T) (KeepsRows-tree a b k id.at h.0) ∙ h.1)
 
 pub kept_seq_part : (a b : List Row) → GrowsTypes a b → (id : TypeId) → IsSeqPart a id.at → IsSeqPart b id.at
 kept_seq_part a b k id h = rows_seq_part a b k.rows id h
 
 rows_alt_part : (a b : List Row) → KeepsRows a b → (id : TypeId) → IsAltPart a id.at → IsAltPart b id.at
 rows_alt_part a b k id h =
-    let l = rows_length a b k in (omega arith, ap is_alt (rows_at a b k id.at h.0) ∙ h.1)
+    let l = KeepsRows-length a b k in (omega arith, ap is_alt (KeepsRows-tree a b k id.at h.0) ∙ h.1)
 
 pub kept_alt_part : (a b : List Row) → GrowsTypes a b → (id : TypeId) → IsAltPart a id.at → IsAltPart b id.at
 kept_alt_part a b k id h = rows_alt_part a b k.rows id h
@@ -166,24 +157,6 @@ other_alt_part rs id (F.Opt i) b e c s = (b, ap is_alt e)
 pub trees_append : (rs : List Row) (xs ys : List TypeId) → trees rs (xs ++ ys) ≡ trees rs xs ++ trees rs ys
 trees_append rs [] ys = refl
 trees_append rs (x ∷ xs) ys = ap (λ ts. tree rs x ∷ ts) (trees_append rs xs ys)
-
-pub all_take : {A : Type 0} (P : A → Type 0) (n : ℕ) (xs : List A) → AllByRecursion P xs → AllByRecursion P (take n xs)
-all_take P zero xs h = tt
-all_take P (suc n) [] h = tt
-all_take P (suc n) (x ∷ xs) h = (h.0, all_take P n xs h.1)
-
-pub all_front : {A : Type 0} (P : A → Type 0) (xs ys : List A) → AllByRecursion P (xs ++ ys) → AllByRecursion P xs
-all_front P [] ys h = tt
-all_front P (x ∷ xs) ys h = (h.0, all_front P xs ys h.1)
-
-pub all_with : {A : Type 0} (P : A → Type 0) (xs : List A) (y : A) → AllByRecursion P xs → P y → AllByRecursion P (xs ++ y ∷ [])
-all_with P [] y h p = (p, tt)
-all_with P (x ∷ xs) y h p = (h.0, all_with P xs y h.1 p)
-
-pub all_get : {A : Type 0} (P : A → Type 0) (xs : List A) (k : ℕ) (x : A) → AllByRecursion P xs → k < length xs → x ≡ get_or xs k x → P x
-all_get P [] k x h l e = absurd (omega arith)
-all_get P (y ∷ ys) zero x h l e = subst P (sym e) h.0
-all_get P (y ∷ ys) (suc k) x h l e = let m : k < length ys = omega arith in all_get P ys k x h.1 m e
 
 pub last_split : {A : Type 0} (xs : List A) (n : ℕ) (x : A) → length xs ≡ suc n → x ≡ get_or xs n x → xs ≡ take n xs ++ x ∷ []
 last_split [] n x l e = absurd (omega arith)

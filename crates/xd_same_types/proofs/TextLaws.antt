@@ -4,10 +4,12 @@ use Rattle.std.proofs.lemmas.Bool.Decides.{nat_tests}
 use Rattle.std.specs.Cmp.Lexicographic.{slice_cmp, pointwise}
 use Rattle.std.specs.List.Sorted.{IsStrictlySortedBy}
 use Rattle.std.specs.Ordering.{nat_cmp}
+use Rattle.std.proofs.lemmas.Bool.{or_left, or_right}
 use Rattle.xd_doc.specs.Document.{Document, empty, text, element}
 use Rattle.xd_doc.specs.Classes.{TextClass, class_has, is_named}
 use Rattle.xd_doc.specs.ClassForms.{IsTextClass}
 use Rattle.xd_doc.proofs.SortedNames.{same_words}
+use Rattle.xd_doc.proofs.Bools.{or_cases}
 use Rattle.xd_syntax.specs.Table.{IsWordsNode}
 use Rattle.xd_syntax.specs.Tree.{Tree, Text, Words, Alt}
 use Rattle.xd_same_types.specs.Same.{Meaning, FitsAs, MeansSame, IsTextOf, IsTextsType}
@@ -39,18 +41,6 @@ texts_all h e = record { fits = λ N d. go N d; tops = λ known. refl }
     go N (text s r) = (λ f. (f, e s), λ f. f.0)
     go N (element l c r) = (λ f. f, λ f. f)
 
-either : (b c : Bool) → (b || c) ≡ true → (b ≡ true) ⊎ (c ≡ true)
-either true c e = inl refl
-either false c e = inr e
-
-or_left : (b c : Bool) → b ≡ true → (b || c) ≡ true
-or_left true c e = refl
-or_left false c e = absurd (cc)
-
-or_right : (b c : Bool) → c ≡ true → (b || c) ≡ true
-or_right true c e = refl
-or_right false c e = e
-
 pub texts_alt : (h g : List ℕ → Bool) (T U V : Tree) → IsTextsType h T → IsTextsType g U → MeansSame V (Alt T U) → IsTextsType (λ s. h s || g s) V
 texts_alt h g T U V t u m = record { fits = λ N d. iff_then (m.both N d) (to N d, back N d); tops = λ known. m.tops known ∙ and_same (t.tops known) (u.tops known) }
   where
@@ -60,7 +50,7 @@ texts_alt h g T U V t u m = record { fits = λ N d. iff_then (m.both N d) (to N 
 
     split : (d : Document) → IsTextOf (λ s. h s || g s) d → IsTextOf h d ⊎ IsTextOf g d
     split empty i = absurd i
-    split (text s r) i = by_side (either (h s) (g s) i.1)
+    split (text s r) i = by_side (or_cases (h s) (g s) i.1)
       where
         by_side : (h s ≡ true) ⊎ (g s ≡ true) → ((r ≡ empty) × (h s ≡ true)) ⊎ ((r ≡ empty) × (g s ≡ true))
         by_side (inl e) = inl (i.0, e)

@@ -1,19 +1,12 @@
 -- Laws of the names that types use outside of labels.
 use Rattle.std.proofs.Common.{◌≡◌, ℕ, zero, suc, ◌<◌, Bool, true, false, ◌&&◌, refl, sym, ap, ◌∙◌, subst, List, [], ◌∷◌, ◌++◌, length, get_or, set, arith}
+use Rattle.xd_doc.proofs.Bools.{and_true, and_assoc}
 use Rattle.xd_syntax.specs.Tree.{Tree, seq_of}
 use Rattle.xd_syntax.specs.TreeForms.{alt_of}
 use Rattle.xd_same_types.specs.Same.{tops_only, all_tops_only}
 
 pub and_same : {a b c d : Bool} → a ≡ c → b ≡ d → (a && b) ≡ (c && d)
 and_same {a} {b} {c} {d} e f = ap (λ x. x && b) e ∙ ap (λ y. c && y) f
-
-pub and_assoc : (a b c : Bool) → ((a && b) && c) ≡ (a && (b && c))
-and_assoc true b c = refl
-and_assoc false b c = refl
-
-pub and_true : (a : Bool) → (a && true) ≡ a
-and_true true = refl
-and_true false = refl
 
 pub and_itself : (a : Bool) → (a && a) ≡ a
 and_itself true = refl

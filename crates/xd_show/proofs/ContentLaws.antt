@@ -1,10 +1,12 @@
 -- Laws of what is written for contents.
-use Rattle.std.proofs.Common.{◌≡◌, ◌≢◌, ◌⊎◌, ◌↔◌, inl, inr, ℕ, zero, suc, ◌+◌, ◌<◌, ◌≤◌, Bool, true, false, ◌||◌, arith, refl, sym, ap, ◌∙◌, subst, List, [], ◌∷◌, ◌++◌, length, take, get_or, set, length-append, append_assoc, Option, Some, None, Result, Ok, Err}
+use Rattle.std.proofs.Common.{◌≡◌, ◌≢◌, ◌⊎◌, ◌↔◌, inl, inr, ℕ, zero, suc, ◌+◌, ◌<◌, Bool, true, false, arith, refl, sym, ap, ◌∙◌, subst, List, [], ◌∷◌, ◌++◌, length, take, get_or, set, Option, Some, None, Result, Ok, Err}
 use Rattle.std.proofs.lemmas.List.{length-set, get_or-set_same, get_or-set_other}
 use Rattle.std.specs.List.{AllByRecursion}
 use Rattle.std.specs.Str.{bytes_eq}
-use Rattle.std.proofs.lemmas.Slice.Eq.{bytes_eq-Decides}
+use Rattle.std.proofs.lemmas.Bool.{or_right}
 use Rattle.xd_doc.specs.Document.{Document, empty, text, element}
+use Rattle.xd_doc.proofs.Options.{some_holds}
+use Rattle.xd_doc.proofs.Lists.{all_there, same_at, word_equals}
 use Rattle.xd_auto.specs.declared.auto.State.{State}
 use Rattle.xd_auto.specs.declared.auto.LabelMove.{LabelMove}
 use Rattle.xd_auto.specs.Automaton.{Automaton, IsClosed, IsState, accepts, moves_at, no_moves, state_number}
@@ -13,6 +15,7 @@ use Rattle.xd_syntax.specs.Tree.{Tree, Elem, Name}
 use Rattle.xd_syntax.specs.Table.{Row, KeepsRows, tree_at}
 use Rattle.xd_syntax.specs.Types.{BelongsTo}
 use Rattle.xd_syntax.specs.declared.types.TypeId.{TypeId}
+use Rattle.xd_syntax.proofs.TableRows.{KeepsRows-trans, KeepsRows-length, KeepsRows-tree}
 use Rattle.xd_same_types.specs.Grown.{GrowsTypes}
 use Rattle.xd_same_types.specs.Same.{Meaning, FitsAs, tops_only}
 use Rattle.std.specs.Option.{IfSome}
@@ -20,20 +23,11 @@ use Rattle.std.specs.Result.{IfOk}
 use Rattle.xd_doc.specs.Classes.{LabelClass}
 use Rattle.xd_empty.specs.Parts.{is_marked}
 use Rattle.xd_boole.specs.Universal.{MarkUniversal}
-use Rattle.xd_syntax.proofs.Trees.{tree_kept}
-use Rattle.xd_same_types.proofs.Ids.{default_free, take_read}
+use Rattle.xd_same_types.proofs.Ids.{take_read}
 use Rattle.xd_show_solve.specs.Levels.{AreContents, AreWritten, IsStateType, IsWritten, MeansAny, WrittenBelong, known_of}
+use Rattle.xd_named_parts.proofs.NamedLaws.{has_there}
 use Rattle.xd_show.specs.Plans.{AllAreNamed}
 use Rattle.xd_show.specs.Contents.{AreAllWritten, AreContentsBy, AreFirst, AreKnown, GrowsContents, GrowsNames, IsTypeOf, IsUnderLabel, MeansAnyAnd, MeansState, MeansStates}
-
-rows_then : (a b c : List Row) → KeepsRows a b → KeepsRows b c → KeepsRows a c
-rows_then a b c k l = record { more = k.more ++ l.more; grown = l.grown ∙ ap (λ xs. xs ++ l.more) k.grown ∙ append_assoc a k.more l.more }
-
-rows_length : (a b : List Row) → KeepsRows a b → length a ≤ length b
-rows_length a b k = let e : length b ≡ length (a ++ k.more) = ap length k.grown in omega (arith, length-append a k.more)
-
-rows_at : (a b : List Row) → KeepsRows a b → (i : ℕ) → i < length a → tree_at b i ≡ tree_at a i
-rows_at a b k i h = subst (λ xs. tree_at xs i ≡ tree_at a i) (sym k.grown) (tree_kept a k.more i h)
 
 pub contents_refl : (P : Meaning → Type 0) (a : Automaton) (rows : List Row) (written : List (Option TypeId)) → GrowsContents P a rows written rows written
 contents_refl P a rows written = record { count = refl; right = λ N p h. h; belong = λ h. h; written = λ s h. h }
@@ -51,10 +45,10 @@ contents_by P Q a x y u v f g = record { count = g.count; right = λ N q k. g.ri
 
 -- what is written stays right while the table grows
 pub contents_kept : (a : Automaton) (N : Meaning) (old new : List Row) (written : List (Option TypeId)) → KeepsRows old new → WrittenBelong old written → AreContents a N old written → AreContents a N new written
-contents_kept a N old new written k b h = λ s id e d. subst (λ T. (accepts a d s ≡ true) ↔ FitsAs N T d) (sym (rows_at old new k id.at (b s id e))) (h s id e d)
+contents_kept a N old new written k b h = λ s id e d. subst (λ T. (accepts a d s ≡ true) ↔ FitsAs N T d) (sym (KeepsRows-tree old new k id.at (b s id e))) (h s id e d)
 
 pub belong_kept : (old new : List Row) (written : List (Option TypeId)) → KeepsRows old new → WrittenBelong old written → WrittenBelong new written
-belong_kept old new written k b = λ s id e. let l = rows_length old new k in let m = b s id e in omega arith
+belong_kept old new written k b = λ s id e. let l = KeepsRows-length old new k in let m = b s id e in omega arith
 
 -- a table grows, and nothing is written
 pub contents_grown : (P : Meaning → Type 0) (a : Automaton) (old new : List Row) (written : List (Option TypeId)) → KeepsRows old new → WrittenBelong old written → GrowsContents P a old written new written
@@ -122,7 +116,7 @@ names_refl words rows = record { rows = record { more = []; grown = same rows };
     same (x ∷ xs) = ap (λ ys. x ∷ ys) (same xs)
 
 pub names_then : (words : List (List ℕ)) (x y z : List Row) → GrowsNames words x y → GrowsNames words y z → GrowsNames words x z
-names_then words x y z g h = record { rows = rows_then x y z g.rows h.rows; names = λ known k n. h.names known k (g.names known k n) }
+names_then words x y z g h = record { rows = KeepsRows-trans x y z g.rows h.rows; names = λ known k n. h.names known k (g.names known k n) }
 
 -- where more words are allowed
 pub names_by : (less more : List (List ℕ)) (x y : List Row) → ((known : List (List ℕ)) → AreKnown known more → AreKnown known less) → GrowsNames less x y → GrowsNames more x y
@@ -131,11 +125,6 @@ names_by less more x y f g = record { rows = g.rows; names = λ known k n. g.nam
 -- types aside from names use `Any` at most
 pub names_of_types : (words : List (List ℕ)) (x y : List Row) → ((known : List (List ℕ)) → AreKnown known words → has_word known any_word ≡ true) → GrowsTypes x y → GrowsNames words x y
 names_of_types words x y f g = record { rows = g.rows; names = λ known k n. g.names known (f known k) n }
-
-pub all_there : {A : Type 0} (P : A → Type 0) (xs : List A) (k : ℕ) (x : A) → AllByRecursion P xs → k < length xs → x ≡ get_or xs k x → P x
-all_there P [] k x h l e = absurd (omega arith)
-all_there P (y ∷ ys) zero x h l e = subst P (sym e) h.0
-all_there P (y ∷ ys) (suc k) x h l e = let m : k < length ys = omega arith in all_there P ys k x h.1 m e
 
 -- a place of a list with one more: it was there, or it is the new one, or there is none
 at_pushed : {A : Type 0} (xs : List A) (y d : A) (k : ℕ) → (get_or (xs ++ y ∷ []) k d ≡ get_or xs k d) ⊎ (((k ≡ length xs) × (get_or (xs ++ y ∷ []) k d ≡ y)) ⊎ (get_or (xs ++ y ∷ []) k d ≡ d))
@@ -146,10 +135,6 @@ at_pushed (x ∷ xs) y d (suc k) = elim (at_pushed xs y d k) [
   | inl e ↦ inl e
   | inr r ↦ elim r [ inl e ↦ inr (inl (ap suc e.0, e.1)) | inr e ↦ inr (inr e) ]
 ]
-
-pub some_holds : {A : Type 0} (P : A → Type 0) (o : Option A) (x : A) → o ≡ Some x → IfSome o P → P x
-some_holds P None x e h = cc
-some_holds P (Some y) x e h = let f : y ≡ x = cc in subst P f h
 
 -- all that is written is `Any`, for marked states
 abbrev pub OnlyMarked : List Bool → TypeId → List (Option TypeId) → Type 0
@@ -207,10 +192,10 @@ type_before P a first old written s new id k b h = record { exact = λ N p conte
 
 pub type_after : (P : Meaning → Type 0) (a : Automaton) (old : List Row) (written : List (Option TypeId)) (s : State) (mid new : List Row) (id : TypeId) → KeepsRows mid new → IsTypeOf P a old written s mid id → IsTypeOf P a old written s new id
 type_after P a old written s mid new id k h =
-    let e : tree_at new id.at ≡ tree_at mid id.at = rows_at mid new k id.at h.belongs in
+    let e : tree_at new id.at ≡ tree_at mid id.at = KeepsRows-tree mid new k id.at h.belongs in
     record {
       exact = λ N p contents d. subst (λ T. (accepts a d s ≡ true) ↔ FitsAs N T d) (sym e) (h.exact N p contents d);
-      belongs = let l = rows_length mid new k in let m = h.belongs in omega arith;
+      belongs = let l = KeepsRows-length mid new k in let m = h.belongs in omega arith;
       tops = ap (tops_only (any_word ∷ [])) e ∙ h.tops;
     }
 
@@ -243,11 +228,11 @@ bodies_more a words named old mid new written bodies n w s id early late belong 
             beyond (v ∷ xs) zero o = o
             beyond (v ∷ xs) (suc i) o = beyond xs i o
     by_place (inr u) =
-        let same_word : x ≡ w = p ∙ ap (λ i. get_or words i x) u ∙ default_free words n x w l ∙ sym e in
-        let same_state : y ≡ s = q ∙ ap (λ i. get_or named i y) u ∙ default_free named n y s m ∙ sym f in
+        let word_equals : x ≡ w = p ∙ ap (λ i. get_or words i x) u ∙ same_at words n x w l ∙ sym e in
+        let same_state : y ≡ s = q ∙ ap (λ i. get_or named i y) u ∙ same_at named n y s m ∙ sym f in
         let same_body : z ≡ id = r ∙ ap (λ i. get_or (bodies ++ id ∷ []) i z) (u ∙ sym count) ∙ last bodies in
         let goal_at = λ (v : List ℕ) (o : State) (g : TypeId). IsTypeOf (MeansAnyAnd a v o) a old written o new g in
-        subst (λ v. goal_at v y z) (sym same_word) (subst (λ o. goal_at w o z) (sym same_state) (subst (λ g. goal_at w s g) (sym same_body) (type_before (MeansAnyAnd a w s) a old mid written s new id early belong t)))
+        subst (λ v. goal_at v y z) (sym word_equals) (subst (λ o. goal_at w o z) (sym same_state) (subst (λ g. goal_at w s g) (sym same_body) (type_before (MeansAnyAnd a w s) a old mid written s new id early belong t)))
       where
         last : (xs : List TypeId) → get_or (xs ++ id ∷ []) (length xs) z ≡ id
         last [] = refl
@@ -269,7 +254,7 @@ level_more a written states n t d e l below here i s b f = by_place (less_or_sam
     by_place : (i < n) ⊎ (i ≡ n) → AllByRecursion (λ (m : LabelMove). IsWritten written m.content) (moves_at a s).labels
     by_place (inl u) = below i s u f
     by_place (inr u) =
-        let same : s ≡ t = f ∙ ap (λ k. get_or states k s) u ∙ default_free states n s d l ∙ sym e in
+        let same : s ≡ t = f ∙ ap (λ k. get_or states k s) u ∙ same_at states n s d l ∙ sym e in
         subst (λ x. AllByRecursion (λ (m : LabelMove). IsWritten written m.content) (moves_at a x).labels) (sym same) here
 
 -- the types of what was solved
@@ -294,18 +279,6 @@ written_more before after named k s l e f h g =
     pushed (x ∷ xs) p = (f x p.0, pushed xs p.1)
 
 -- words that a list has
-
-or_right : (b c : Bool) → c ≡ true → (b || c) ≡ true
-or_right true c e = refl
-or_right false c e = e
-
-pub same_word : (x w : List ℕ) → x ≡ w → bytes_eq x w ≡ true
-same_word x w e = (bytes_eq-Decides x w).1 e
-
-pub has_there : (ws : List (List ℕ)) (k : ℕ) (w : List ℕ) → k < length ws → w ≡ get_or ws k w → has_word ws w ≡ true
-has_there [] k w l e = absurd (omega arith)
-has_there (x ∷ xs) zero w l e = ap (λ b. b || has_word xs w) (same_word x w (sym e))
-has_there (x ∷ xs) (suc k) w l e = let m : k < length xs = omega arith in or_right (bytes_eq x w) (has_word xs w) (has_there xs k w m e)
 
 pub all_of_each : {A : Type 0} (P : A → Type 0) (xs : List A) → ((k : ℕ) (x : A) → k < length xs → x ≡ get_or xs k x → P x) → AllByRecursion P xs
 all_of_each P [] h = tt

@@ -1,7 +1,6 @@
 -- What is made over what is settled.
-use Rattle.std.proofs.Common.{◌≡◌, ℕ, true, refl, sym, subst, List, ◌∷◌, Option, Some, Result, Ok, Err}
+use Rattle.std.proofs.Common.{◌≡◌, ℕ, true, refl, sym, subst, List, ◌∷◌, Option, Some}
 use Rattle.std.specs.Prelude.{slice_get}
-use Rattle.std.specs.Result.{IfOk}
 use Rattle.xd_auto.specs.declared.auto.State.{State}
 use Rattle.xd_auto.specs.Automaton.{Automaton, accepts}
 use Rattle.xd_empty.specs.Parts.{HasDocument}
@@ -35,7 +34,3 @@ settled_shown a start taken s new bodies h by has P w D e f g shows =
     shown_law a s.names.items s.named.items start s.pool.types new s.written.items bodies h.new h.count h.contents by taken P w h.some h.first has
     (λ N x m k proper. shows N x (subst (λ rows. AreMeant N rows D.names.items D.bodies.items) (sym e) (subst (λ ws. AreMeant N new ws D.bodies.items) (sym f) (subst (AreMeant N new s.names.items) (sym g) m)))
     (subst (λ ws. slice_get ws 0 ≡ Some x) (sym f) k) proper)
-
-pub ok_both : {T E : Type 0} (r : Result T E) (P Q R : T → Type 0) → ((x : T) → P x → Q x → R x) → IfOk r P → IfOk r Q → IfOk r R
-ok_both (Ok x) P Q R f p q = f x p q
-ok_both (Err e) P Q R f p q = tt

@@ -1,12 +1,14 @@
 -- Names that stand for states, and what is shown.
-use Rattle.std.proofs.Common.{◌≡◌, ◌↔◌, ℕ, zero, suc, ◌<◌, Bool, true, false, cond, arith, refl, sym, ap, ◌∙◌, subst, List, [], ◌∷◌, length, get_or}
+use Rattle.std.proofs.Common.{◌≡◌, ◌↔◌, ℕ, zero, suc, ◌<◌, Bool, true, false, cond, arith, refl, sym, ap, ◌∙◌, List, [], ◌∷◌, length, get_or}
 use Rattle.std.specs.Str.{bytes_eq}
 use Rattle.std.specs.Prelude.{Option, Some, slice_get}
 use Rattle.std.proofs.lemmas.Slice.Eq.{bytes_eq-Decides}
 use Rattle.xd_doc.specs.Document.{Document}
+use Rattle.xd_doc.proofs.Bools.{cond_true, cond_false}
+use Rattle.xd_doc.proofs.Lists.{word_equals, first_at}
 use Rattle.xd_auto.specs.declared.auto.State.{State}
 use Rattle.xd_auto.specs.Automaton.{Automaton, accepts}
-use Rattle.xd_syntax.specs.Words.{any_word, has_word}
+use Rattle.xd_syntax.specs.Words.{any_word}
 use Rattle.xd_syntax.specs.Program.{ProgramTree}
 use Rattle.xd_syntax.specs.Table.{Row, tree_at}
 use Rattle.xd_syntax.specs.Types.{BelongsTo}
@@ -19,7 +21,8 @@ use Rattle.xd_shown.specs.FreeNames.{AreDistinct, AreNewNames}
 use Rattle.xd_shown.specs.Shown.{IsShown}
 use Rattle.xd_empty.specs.Parts.{HasDocument}
 use Rattle.xd_show_solve.specs.Levels.{MeansAny}
-use Rattle.xd_show.proofs.ContentLaws.{all_of_each, has_there, same_word}
+use Rattle.xd_named_parts.proofs.NamedLaws.{lacks_there}
+use Rattle.xd_show.proofs.ContentLaws.{all_of_each}
 use Rattle.xd_show.specs.Contents.{AreBodiesBy, AreContentsBy, IsTypeOf, MeansAnyAnd, MeansAnyAndStates, MeansStates}
 
 -- the state of the first of the words that is this one
@@ -32,14 +35,6 @@ stands_for a (x ∷ xs) (s ∷ ss) w d = cond (bytes_eq x w) (accepts a d s) (st
 abbrev pub meaning_of : Automaton → List (List ℕ) → List State → Meaning
 meaning_of a words named w d = cond (bytes_eq any_word w) true (stands_for a words named w d)
 
-cond_true : (b x y : Bool) → b ≡ true → cond b x y ≡ x
-cond_true true x y e = refl
-cond_true false x y e = cc
-
-cond_false : (b x y : Bool) → b ≡ false → cond b x y ≡ y
-cond_false true x y e = cc
-cond_false false x y e = refl
-
 other_word : (x w : List ℕ) → (x ≡ w → ⊥) → bytes_eq x w ≡ false
 other_word x w f = go (bytes_eq x w) refl
   where
@@ -47,16 +42,13 @@ other_word x w f = go (bytes_eq x w) refl
     go true e = absurd (f ((bytes_eq-Decides x w).0 e))
     go false e = e
 
-lacks_there : (ws : List (List ℕ)) (k : ℕ) (w v : List ℕ) → has_word ws v ≡ false → k < length ws → w ≡ get_or ws k w → v ≡ w → ⊥
-lacks_there ws k w v n l e f = let h : has_word ws v ≡ true = subst (λ u. has_word ws u ≡ true) (sym f) (has_there ws k w l e) in let g : true ≡ false = sym h ∙ n in cc
-
 stands_there : (a : Automaton) (words : List (List ℕ)) (named : List State) (k : ℕ) (w : List ℕ) (s : State) (d : Document) → AreDistinct words → length words ≡ length named → k < length named → w ≡ get_or words k w → s ≡ get_or named k s →
     stands_for a words named w d ≡ accepts a d s
 stands_there a [] [] k w s d g n l e f = absurd (omega arith)
 stands_there a [] (y ∷ ys) k w s d g n l e f = absurd (omega arith)
 stands_there a (x ∷ xs) [] k w s d g n l e f = absurd (omega arith)
 stands_there a (x ∷ xs) (y ∷ ys) zero w s d g n l e f =
-    cond_true (bytes_eq x w) (accepts a d y) (stands_for a xs ys w d) (same_word x w (sym e)) ∙ ap (accepts a d) (sym f)
+    cond_true (bytes_eq x w) (accepts a d y) (stands_for a xs ys w d) (word_equals x w (sym e)) ∙ ap (accepts a d) (sym f)
 stands_there a (x ∷ xs) (y ∷ ys) (suc k) w s d g n l e f =
     let m : length xs ≡ length ys = omega arith in
     let i : k < length ys = omega arith in
@@ -84,10 +76,6 @@ shown_same D E taken P start same h = record {
 }
 
 -- what is shown of the state that has the first name
-
-pub first_word : (words : List (List ℕ)) (w : List ℕ) → slice_get words 0 ≡ Some w → w ≡ get_or words 0 w
-first_word [] w e = cc
-first_word (x ∷ xs) w e = cc
 
 first_of : (words : List (List ℕ)) → 0 < length words → (w : List ℕ) × (slice_get words 0 ≡ Some w)
 first_of [] l = absurd (omega arith)
@@ -133,7 +121,7 @@ module _ (a : Automaton) (words : List (List ℕ)) (named : List State) (start :
 
   -- the first name stands for what the start accepts
   pub first_means : 0 < length named → get_or named 0 start ≡ start → (w : List ℕ) → slice_get words 0 ≡ Some w → (d : Document) → meaning_of a words named w d ≡ accepts a d start
-  first_means some first w e d = states_mean a words named names count 0 w start some (first_word words w e) (sym first) d
+  first_means some first w e d = states_mean a words named names count 0 w start some (first_at words w e) (sym first) d
 
   pub shown_law : (taken : List (List ℕ)) (P : ProgramTree) (w : List ℕ) → 0 < length named → get_or named 0 start ≡ start → HasDocument a start →
       ((N : Meaning) (x : List ℕ) → AreMeant N new words bodies → slice_get words 0 ≡ Some x → HasProper (N x) → IsShown (λ d. N x d ≡ true) taken P w) →

@@ -1,6 +1,7 @@
 -- Laws of terms gathered by their unknowns.
 use Rattle.std.proofs.Common.{◌≡◌, ℕ, zero, suc, ◌+◌, ◌<◌, arith, refl, sym, ap, ◌∙◌, subst, List, [], ◌∷◌, ◌++◌, map, length, take, get_or, set, Option}
 use Rattle.std.specs.List.{AllByRecursion}
+use Rattle.xd_doc.proofs.Lists.{all_push, all_set, all_there, map_append, length-mapped}
 use Rattle.xd_syntax.specs.Tree.{Tree, Alt}
 use Rattle.xd_syntax.specs.TreeForms.{alt_of}
 use Rattle.xd_syntax.specs.Table.{Row}
@@ -17,27 +18,18 @@ use Rattle.xd_same_types.proofs.Ids.{take_read}
 use Rattle.xd_same_types.proofs.Laws.{same_at}
 use Rattle.xd_show_solve.proofs.ShortLaws.{same_more}
 use Rattle.xd_show_solve.proofs.SideLaws.{a_product, a_side, adds_as, product_pushed, product_put}
-use Rattle.xd_same_types.proofs.Facts.{all_push, all_set}
 use Rattle.xd_show_solve.proofs.SumSteps.{products_append, products_kept}
-use Rattle.xd_same_types.proofs.Tables.{all_get, kept_trees, kept_tree, trees_append}
+use Rattle.xd_same_types.proofs.Tables.{kept_trees, kept_tree, trees_append}
 
 map_set : {A B : Type 0} (f : A → B) (xs : List A) (k : ℕ) (y : A) → map f (set xs k y) ≡ set (map f xs) k (f y)
 map_set f [] k y = refl
 map_set f (x ∷ xs) zero y = refl
 map_set f (x ∷ xs) (suc k) y = ap (λ ys. f x ∷ ys) (map_set f xs k y)
 
-map_count : {A B : Type 0} (f : A → B) (xs : List A) → length (map f xs) ≡ length xs
-map_count f [] = refl
-map_count f (x ∷ xs) = ap suc (map_count f xs)
-
 map_got : {A B : Type 0} (f : A → B) (xs : List A) (k : ℕ) (x : A) → k < length xs → x ≡ get_or xs k x → f x ≡ get_or (map f xs) k (f x)
 map_got f [] k x l e = absurd (omega arith)
 map_got f (y ∷ ys) zero x l e = ap f e
 map_got f (y ∷ ys) (suc k) x l e = let m : k < length ys = omega arith in map_got f ys k x m e
-
-map_append : {A B : Type 0} (f : A → B) (xs ys : List A) → map f (xs ++ ys) ≡ map f xs ++ map f ys
-map_append f [] ys = refl
-map_append f (x ∷ xs) ys = ap (λ zs. f x ∷ zs) (map_append f xs ys)
 
 -- one type more in a bundle
 pub bundle_put : (types : List Row) (o : Option Tree) (bs : List Bundle) (k : ℕ) (b new : Bundle) (id : TypeId) → k < length bs → b ≡ get_or bs k b →
@@ -48,7 +40,7 @@ bundle_put types o bs k b new id l e f g h =
     let V = alt_of (tree types b.first ∷ trees types (b.more.items ++ id ∷ [])) in
     let s : MeansSame V (Alt T (tree types id)) =
     same_at (ap (λ ts. alt_of (tree types b.first ∷ ts)) (trees_append types b.more.items (id ∷ []))) refl (alt_push (tree types b.first) (trees types b.more.items) (tree types id)) in
-    let m : k < length (bundles_in types bs) = subst (λ n. k < n) (sym (map_count (bundle_in types) bs)) l in
+    let m : k < length (bundles_in types bs) = subst (λ n. k < n) (sym (length-mapped (bundle_in types) bs)) l in
     let is : bundle_in types new ≡ a_product V b.to =
     ap (λ x. a_product (alt_of (tree types x ∷ trees types new.more.items)) new.to) f
     ∙ ap (λ xs. a_product (alt_of (tree types b.first ∷ trees types xs)) new.to) g ∙ ap (a_product V) h in
@@ -70,7 +62,7 @@ bundle_pushed types o bs new t f g h =
 pub put_stands : (types : List Row) (bs : List Bundle) (k : ℕ) (b new : Bundle) (id : TypeId) → BundlesStand types bs → BelongsTo types id → k < length bs → b ≡ get_or bs k b →
     new.first ≡ b.first → new.more.items ≡ b.more.items ++ id ∷ [] → BundlesStand types (set bs k new)
 put_stands types bs k b new id h i l e f g =
-    let old = all_get (BundleStands types) bs k b h l e in
+    let old = all_there (BundleStands types) bs k b h l e in
     all_set (BundleStands types) bs k new h (record {
       first = subst (BelongsTo types) (sym f) old.first;
       more = subst (AllByRecursion (BelongsTo types)) (sym g) (all_push (BelongsTo types) b.more.items id old.more i);
@@ -85,7 +77,7 @@ pub bundle_term : (a m b : List Row) → GrowsTypes a m → GrowsTypes m b → (
     MeansSame (tree b t.by) (alt_of (tree m x.first ∷ trees m x.more.items)) → (o : Option Tree) → SameSide (a_side (bundles_in a (take k bs)) o) (a_side (products m ts) o) →
     SameSide (a_side (bundles_in a (take (k + 1) bs)) o) (a_side (products b (ts ++ t ∷ [])) o)
 bundle_term a m b am mb bs k x ts t h hs l e q s o w =
-    let bx = all_get (BundleStands a) bs k x h l e in
+    let bx = all_there (BundleStands a) bs k x h l e in
     let v = same_at {U = alt_of (tree a x.first ∷ trees a x.more.items)} refl (ap (λ y. alt_of (y ∷ trees a x.more.items)) (sym (kept_tree a m am x.first bx.first)) ∙ ap (λ ys. alt_of (tree m x.first ∷ ys)) (sym (kept_trees a m am x.more.items bx.more))) s in
     let adds : AddsProduct (a_side (products m ts) o) (bundle_in a x) (a_side (products m ts ++ a_product (tree b t.by) x.to ∷ []) o) =
     adds_as _ _ (tree b t.by) _ x.to (product_pushed (products m ts) o (a_product (tree b t.by) x.to)) v in

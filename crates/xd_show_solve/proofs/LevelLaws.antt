@@ -1,8 +1,11 @@
 -- Laws of moves as products.
 use Rattle.std.proofs.Common.{◌≡◌, ◌⊎◌, ◌↔◌, inl, inr, ℕ, Bool, true, false, ◌||◌, ◌&&◌, refl, sym, ap, subst, List, [], ◌∷◌, ◌++◌, Option, Some}
 use Rattle.std.specs.List.{list_any}
+use Rattle.std.proofs.lemmas.Bool.{and_from}
 use Rattle.xd_doc.specs.Document.{Document, empty, text, element, join}
 use Rattle.xd_doc.specs.Classes.{LabelClass, class_has}
+use Rattle.xd_doc.proofs.Bools.{and_parts}
+use Rattle.xd_doc.proofs.Lists.{all_push}
 use Rattle.xd_auto.specs.declared.auto.LabelMove.{LabelMove}
 use Rattle.xd_auto.specs.Automaton.{Automaton, accepts, takes_element}
 use Rattle.xd_syntax.specs.Tree.{Tree, Elem}
@@ -17,18 +20,7 @@ use Rattle.xd_same_types.proofs.Laws.{takes_elem}
 use Rattle.xd_show_solve.proofs.SideLaws.{a_product}
 use Rattle.xd_same_types.proofs.Facts.{iff_then, iff_back, or_same}
 use Rattle.xd_show_solve.proofs.SumLaws.{some_append}
-use Rattle.xd_same_types.proofs.Tables.{all_with, kept_tree, kept_belongs}
-
-pub and_both : (p q : Bool) → (p && q) ≡ true → (p ≡ true) × (q ≡ true)
-and_both true q k = (refl, k)
-and_both false q k = cc
-
-pub both_and : (p q : Bool) → p ≡ true → q ≡ true → (p && q) ≡ true
-both_and p q e f = subst (λ b. (b && q) ≡ true) (sym e) f
-
-or_either : (p q : Bool) → (p || q) ≡ true → (p ≡ true) ⊎ (q ≡ true)
-or_either true q k = inl refl
-or_either false q k = inr k
+use Rattle.xd_same_types.proofs.Tables.{kept_tree, kept_belongs}
 
 -- one element, with what follows it, of a move
 element_out : (a : Automaton) (N : Meaning) (X : Unknowns) (k : LabelClass) (T : Tree) (i : ℕ) (m : LabelMove) → m.class ≡ k →
@@ -39,7 +31,7 @@ element_out a N X k T i m c h g (text t r) v d e f x = absurd f
 element_out a N X k T i m c h g (element l w r) v d e f x =
     let rest : join r v ≡ v = ap (λ z. join z v) f.0 in
     let has : class_has m.class l ≡ true = subst (λ y. class_has y l ≡ true) (sym c) f.1 in
-    let all = both_and (class_has m.class l) (accepts a w m.content && accepts a v m.rest) has (both_and (accepts a w m.content) (accepts a v m.rest) ((h w).1 f.2) ((g v).0 x)) in
+    let all = and_from (class_has m.class l) (accepts a w m.content && accepts a v m.rest) has (and_from (accepts a w m.content) (accepts a v m.rest) ((h w).1 f.2) ((g v).0 x)) in
     subst (LabelsTake a (m ∷ [])) e (subst (λ z. LabelsTake a (m ∷ []) (element l w z)) (sym rest) (or_one (takes_element a l w v m) all))
   where
     or_one : (b : Bool) → b ≡ true → (b || false) ≡ true
@@ -52,8 +44,8 @@ element_in a N X k T i m c h g empty f = absurd f
 element_in a N X k T i m c h g (text t r) f = absurd f
 element_in a N X k T i m c h g (element l w r) f =
     let one = one_or (takes_element a l w r m) f in
-    let p = and_both (class_has m.class l) (accepts a w m.content && accepts a r m.rest) one in
-    let q = and_both (accepts a w m.content) (accepts a r m.rest) p.1 in
+    let p = and_parts (class_has m.class l) (accepts a w m.content && accepts a r m.rest) one in
+    let q = and_parts (accepts a w m.content) (accepts a r m.rest) p.1 in
     (element l w empty, r, refl, (refl, subst (λ y. class_has y l ≡ true) c p.0, (h w).0 q.0), (g r).1 q.1)
   where
     one_or : (b : Bool) → (b || false) ≡ true → b ≡ true
@@ -114,9 +106,9 @@ pub label_products_more : (a : Automaton) (types : List Row) (written : _) (plac
     AreLabelProducts a types written places ms ps → IsLabelProduct a types written places m p → AreLabelProducts a types written places (ms ++ m ∷ []) (ps ++ p ∷ [])
 label_products_more a types written places ms ps m p h g = record {
   takes = λ N X c q d. iff_then (some_append N X d ps (p ∷ [])) (iff_then (or_same (h.takes N X c q d) (g.takes N X c q d)) (iff_back (labels_append a ms m d)));
-  items = all_with (λ (r : Product). TakesItem r.by) ps p h.items g.item;
-  placed = all_with (λ (r : Product). HasPlace places r.to) ps p h.placed g.place;
-  tops = λ known. all_with (λ (r : Product). HasTops known r.by) ps p (h.tops known) (g.tops known);
+  items = all_push (λ (r : Product). TakesItem r.by) ps p h.items g.item;
+  placed = all_push (λ (r : Product). HasPlace places r.to) ps p h.placed g.place;
+  tops = λ known. all_push (λ (r : Product). HasTops known r.by) ps p (h.tops known) (g.tops known);
 }
 
 pub written_stay : (a b : List Row) → GrowsTypes a b → (written : List (Option TypeId)) → WrittenBelong a written → WrittenBelong b written

@@ -1,15 +1,17 @@
 -- Laws of places of states.
 use Rattle.std.proofs.Common.{◌≡◌, ◌⊎◌, inl, inr, ℕ, zero, suc, ◌+◌, ◌<◌, ◌≤◌, arith, refl, sym, ap, ◌∙◌, subst, List, [], ◌∷◌, ◌++◌, length, take, get_or, set, Option, Some, None}
 use Rattle.std.specs.List.{AllByRecursion}
+use Rattle.xd_doc.proofs.Lists.{all_push, length_push}
+use Rattle.xd_doc.proofs.Numbers.{less_cases}
 use Rattle.xd_auto.specs.declared.auto.State.{State}
 use Rattle.xd_auto.specs.declared.auto.LabelMove.{LabelMove}
 use Rattle.xd_auto.specs.declared.auto.TextMove.{TextMove}
 use Rattle.xd_auto.specs.Automaton.{Automaton, IsState, moves_at, state_number}
 use Rattle.xd_show_solve.specs.Levels.{known_of, known_count, KeepsKnown, IsPlaced, ArePlaced, TextsArePlaced, IsLevel, IsClosedAt, GrowsStates}
-use Rattle.std.proofs.Common.{true, false}
+use Rattle.std.proofs.Common.{true}
 use Rattle.std.specs.Option.{is_some}
 use Rattle.xd_same_types.proofs.Ids.{take_read}
-use Rattle.xd_same_types.proofs.Tables.{all_with}
+use Rattle.xd_show_solve.proofs.SystemLaws.{set_here, set_count}
 
 pub count_known : {A : Type 0} (xs : List (Option A)) → known_count xs ≤ length xs
 count_known [] = omega arith
@@ -23,11 +25,6 @@ count_set (Some y ∷ xs) zero x l e = cc
 count_set (None ∷ xs) (suc k) x l e = let m : k < length xs = omega arith in count_set xs k x m e
 count_set (Some y ∷ xs) (suc k) x l e = let m : k < length xs = omega arith in let i = count_set xs k x m e in omega arith
 
-set_there : {A : Type 0} (xs : List A) (k : ℕ) (y d : A) → k < length xs → get_or (set xs k y) k d ≡ y
-set_there [] k y d l = absurd (omega arith)
-set_there (x ∷ xs) zero y d l = refl
-set_there (x ∷ xs) (suc k) y d l = let m : k < length xs = omega arith in set_there xs k y d m
-
 -- at a place of a list with one set: it is there, or another one
 set_cases : {A : Type 0} (xs : List A) (k i : ℕ) (y d : A) → (i ≡ k) ⊎ (get_or (set xs k y) i d ≡ get_or xs i d)
 set_cases [] k i y d = inr refl
@@ -39,11 +36,6 @@ set_cases (x ∷ xs) (suc k) (suc i) y d = elim (set_cases xs k i y d) [
   | inr e ↦ inr e
 ]
 
-set_length : {A : Type 0} (xs : List A) (k : ℕ) (y : A) → length (set xs k y) ≡ length xs
-set_length [] k y = refl
-set_length (x ∷ xs) zero y = refl
-set_length (x ∷ xs) (suc k) y = ap suc (set_length xs k y)
-
 get_front : {A : Type 0} (xs ys : List A) (i : ℕ) (d : A) → i < length xs → get_or (xs ++ ys) i d ≡ get_or xs i d
 get_front [] ys i d l = absurd (omega arith)
 get_front (x ∷ xs) ys zero d l = refl
@@ -52,10 +44,6 @@ get_front (x ∷ xs) ys (suc i) d l = let m : i < length xs = omega arith in get
 get_last : {A : Type 0} (xs : List A) (y d : A) → get_or (xs ++ y ∷ []) (length xs) d ≡ y
 get_last [] y d = refl
 get_last (x ∷ xs) y d = get_last xs y d
-
-pub pushed_length : {A : Type 0} (xs : List A) (y : A) → length (xs ++ y ∷ []) ≡ length xs + 1
-pushed_length [] y = refl
-pushed_length (x ∷ xs) y = let i = pushed_length xs y in omega arith
 
 -- a new state gets the next place
 pub keeps_set : {A : Type 0} (xs : List (Option A)) (s : State) (x : A) → known_of xs s ≡ None → KeepsKnown xs (set xs (state_number s) (Some x))
@@ -68,17 +56,17 @@ keeps_set xs s x e = λ t y f. go t y f (set_cases xs (state_number s) (state_nu
 pub level_pushed : (a : Automaton) (states : List State) (places : List (Option ℕ)) (s : State) → IsState a s → IsLevel a states places → known_of places s ≡ None →
     IsLevel a (states ++ s ∷ []) (set places (state_number s) (Some (length states)))
 level_pushed a states places s b h e = record {
-  count = set_length places (state_number s) (Some (length states)) ∙ h.count;
+  count = set_count places (state_number s) (Some (length states)) ∙ h.count;
   right = λ t p f. go t p f (set_cases places (state_number s) (state_number t) (Some (length states)) None);
-  belong = all_with (IsState a) states s h.belong b;
-  few = let i = count_set places (state_number s) (length states) within e in let j = pushed_length states s in let k = h.few in omega arith;
+  belong = all_push (IsState a) states s h.belong b;
+  few = let i = count_set places (state_number s) (length states) within e in let j = length_push states s in let k = h.few in omega arith;
 }
   where
     within : state_number s < length places
     within = subst (λ n. state_number s < n) (sym h.count) b
 
     here : known_of (set places (state_number s) (Some (length states))) s ≡ Some (length states)
-    here = set_there places (state_number s) (Some (length states)) None within
+    here = set_here places (state_number s) (Some (length states)) None within
 
     go : (t : State) (p : ℕ) → known_of (set places (state_number s) (Some (length states))) t ≡ Some p →
         (state_number t ≡ state_number s) ⊎ (get_or (set places (state_number s) (Some (length states))) (state_number t) None ≡ get_or places (state_number t) None) →
@@ -87,15 +75,15 @@ level_pushed a states places s b h e = record {
         let same : t ≡ s = ap (λ n. let z : State = record { number = n } in z) q in
         let w : Some (length states) ≡ Some p = sym here ∙ subst (λ u. known_of (set places (state_number s) (Some (length states))) u ≡ Some p) same f in
         let v : length states ≡ p = cc in
-        let j = pushed_length states s in
+        let j = length_push states s in
         (omega arith, subst (λ n. get_or (states ++ s ∷ []) n t ≡ t) v (get_last states s t ∙ sym same))
     go t p f (inr q) =
         let r = h.right t p (sym q ∙ f) in
-        let j = pushed_length states s in
+        let j = length_push states s in
         (omega arith, get_front states (s ∷ []) p t r.0 ∙ r.1)
 
 pub placed_there : (places : List (Option ℕ)) (s : State) (p : ℕ) → state_number s < length places → IsPlaced (set places (state_number s) (Some p)) s
-placed_there places s p l = (p, set_there places (state_number s) (Some p) None l)
+placed_there places s p l = (p, set_here places (state_number s) (Some p) None l)
 
 pub placed_stays : (old new : List (Option ℕ)) (s : State) → KeepsKnown old new → IsPlaced old s → IsPlaced new s
 placed_stays old new s k h = (h.0, k s h.0 h.1)
@@ -112,10 +100,6 @@ pub some_of : {A : Type 0} (o : Option A) → is_some o ≡ true → (x : A) × 
 some_of None e = cc
 some_of (Some x) e = (x, refl)
 
-pub none_of : {A : Type 0} (o : Option A) → is_some o ≡ false → o ≡ None
-none_of None e = refl
-none_of (Some x) e = cc
-
 -- what was read at a place
 pub read_of : {A : Type 0} (xs : List (Option A)) (s : State) (o : Option A) → state_number s < length xs → o ≡ get_or xs (state_number s) o → known_of xs s ≡ o
 read_of xs s o l e = default_free xs (state_number s) None o l ∙ sym e
@@ -127,17 +111,17 @@ read_of xs s o l e = default_free xs (state_number s) None o l ∙ sym e
 
 pub placed_more : (old new : List (Option ℕ)) (ms : List LabelMove) (i : ℕ) (m : LabelMove) → KeepsKnown old new → i < length ms → m ≡ get_or ms i m → ArePlaced old (take i ms) → IsPlaced new m.rest → ArePlaced new (take (i + 1) ms)
 placed_more old new ms i m k l e h p =
-    subst (ArePlaced new) (sym (take_read ms i m l e)) (all_with (λ (n : LabelMove). IsPlaced new n.rest) (take i ms) m (all_placed_stay old new (take i ms) k h) p)
+    subst (ArePlaced new) (sym (take_read ms i m l e)) (all_push (λ (n : LabelMove). IsPlaced new n.rest) (take i ms) m (all_placed_stay old new (take i ms) k h) p)
 
 pub text_placed_more : (old new : List (Option ℕ)) (ms : List TextMove) (i : ℕ) (m : TextMove) → KeepsKnown old new → i < length ms → m ≡ get_or ms i m → TextsArePlaced old (take i ms) → IsPlaced new m.rest → TextsArePlaced new (take (i + 1) ms)
 text_placed_more old new ms i m k l e h p =
-    subst (TextsArePlaced new) (sym (take_read ms i m l e)) (all_with (λ (n : TextMove). IsPlaced new n.rest) (take i ms) m (texts_placed_stay old new (take i ms) k h) p)
+    subst (TextsArePlaced new) (sym (take_read ms i m l e)) (all_push (λ (n : TextMove). IsPlaced new n.rest) (take i ms) m (texts_placed_stay old new (take i ms) k h) p)
 
 pub grows_refl : (xs : List State) → GrowsStates xs xs
 grows_refl xs = record { count = omega arith; stay = λ i s l. refl }
 
 pub grows_push : (xs : List State) (y : State) → GrowsStates xs (xs ++ y ∷ [])
-grows_push xs y = record { count = let j = pushed_length xs y in omega arith; stay = λ i s l. get_front xs (y ∷ []) i s l }
+grows_push xs y = record { count = let j = length_push xs y in omega arith; stay = λ i s l. get_front xs (y ∷ []) i s l }
 
 pub grows_then : (xs ys zs : List State) → GrowsStates xs ys → GrowsStates ys zs → GrowsStates xs zs
 grows_then xs ys zs g h = record {
@@ -152,18 +136,10 @@ closed_stays a old new s k h = (all_placed_stay old new (moves_at a s).labels k 
 abbrev pub ClosedBelow : Automaton → List State → List (Option ℕ) → ℕ → Type 0
 ClosedBelow a states places n = (i : ℕ) (s : State) → i < n → i < length states → s ≡ get_or states i s → IsClosedAt a places s
 
-less_or_same : (i n : ℕ) → i < n + 1 → (i < n) ⊎ (i ≡ n)
-less_or_same i zero l = inr (omega arith)
-less_or_same zero (suc n) l = inl (omega arith)
-less_or_same (suc i) (suc n) l = let m : i < n + 1 = omega arith in elim (less_or_same i n m) [
-  | inl k ↦ inl (omega arith)
-  | inr e ↦ inr (ap suc e)
-]
-
 -- Places beyond the states that were there are looked at later, but none below n was beyond.
 pub closed_more : (a : Automaton) (states new : List State) (places more : List (Option ℕ)) (n : ℕ) → KeepsKnown places more → GrowsStates states new → ((length states ≤ n) → new ≡ states) →
     ClosedBelow a states places n → ((s : State) → n < length states → s ≡ get_or states n s → IsClosedAt a more s) → ClosedBelow a new more (n + 1)
-closed_more a states new places more n k g same h here = λ i s l m e. go i s m e (less_or_same i n l)
+closed_more a states new places more n k g same h here = λ i s l m e. go i s m e (less_cases i n l)
   where
     within : (i : ℕ) → i < n + 1 → i < length new → (i < length states) ⊎ (length states ≤ i)
     within i l m = elim (less_or_same_or i (length states)) [ inl x ↦ inl x | inr y ↦ inr y ]

@@ -1,5 +1,6 @@
 -- Laws of equations that are written shorter.
 use Rattle.std.proofs.Common.{◌≡◌, ◌⊎◌, inl, inr, ℕ, zero, suc, ◌+◌, ◌*◌, ◌<◌, ◌≤◌, Bool, true, refl, sym, ap, ◌∙◌, subst, List, [], ◌∷◌, ◌++◌, length, get_or, arith}
+use Rattle.xd_doc.proofs.Lists.{all_push, all_more, all_there}
 use Rattle.xd_syntax.specs.Table.{Row}
 use Rattle.xd_same_types.specs.Grown.{GrowsTypes}
 use Rattle.xd_same_types.specs.Same.{Meaning, TakesItem}
@@ -8,13 +9,12 @@ use Rattle.xd_show_solve.specs.Systems.{AreEquations, AllStand, ComesBefore, Use
 use Rattle.xd_show_solve.specs.declared.sums.Sum.{Sum}
 use Rattle.std.proofs.lemmas.Nat.{row_fits}
 use Rattle.xd_same_types.proofs.Ids.{got}
-use Rattle.xd_same_types.proofs.Facts.{iff_then, iff_back, all_map, all_push}
-use Rattle.xd_same_types.proofs.Tables.{all_get}
+use Rattle.xd_same_types.proofs.Facts.{iff_then, iff_back}
 use Rattle.xd_show_solve.proofs.SumSteps.{side_kept, stands_kept}
 
 -- where each takes an item, no rank matters
 fine_more : (allowed : ℕ → Bool) (ranks : List ℕ) (bound : ℕ) (s : Side) → IsFineSide allowed [] 0 s → IsFineSide allowed ranks bound s
-fine_more allowed ranks bound s h = all_map (IsFine allowed [] 0) (IsFine allowed ranks bound) s.products one h
+fine_more allowed ranks bound s h = all_more (IsFine allowed [] 0) (IsFine allowed ranks bound) s.products one h
   where
     one : (p : Product) → IsFine allowed [] 0 p → IsFine allowed ranks bound p
     one p f = record { use_allowed = f.use_allowed; guarded = by_guard f.guarded }
@@ -99,11 +99,11 @@ pub all_rewritten_more : (a m b : List Row) → GrowsTypes m b → (ss made : Li
 all_rewritten_more a m b kept ss made t n q st h r k x l e = by_case (pushed_cases made t k x l e)
   where
     by_case : ((k < length made) × (x ≡ get_or made k x)) ⊎ ((k ≡ length made) × (x ≡ t)) → Rewrites a ss k (side_in b x)
-    by_case (inl f) = subst (Rewrites a ss k) (sym (side_kept m b kept x (all_get (SumStands m) made k x st f.0 f.1))) (h k x f.0 f.1)
+    by_case (inl f) = subst (Rewrites a ss k) (sym (side_kept m b kept x (all_there (SumStands m) made k x st f.0 f.1))) (h k x f.0 f.1)
     by_case (inr f) = subst (λ y. Rewrites a ss k (side_in b y)) (sym f.1) (subst (λ j. Rewrites a ss j (side_in b t)) (q ∙ sym f.0) r)
 
 pub all_stand_more : (m b : List Row) → GrowsTypes m b → (made : List Sum) (t : Sum) → AllStand m made → SumStands b t → AllStand b (made ++ t ∷ [])
-all_stand_more m b k made t h s = all_push (SumStands b) made t (all_map (SumStands m) (SumStands b) made (λ x. stands_kept m b k x) h) s
+all_stand_more m b k made t h s = all_push (SumStands b) made t (all_more (SumStands m) (SumStands b) made (λ x. stands_kept m b k x) h) s
 
 pub all_reduce : (a b : List Row) (ss made : List Sum) → length made ≡ length ss → AllRewritten a b ss made → Reduces a b ss made
 all_reduce a b ss made c h = record {
@@ -155,7 +155,7 @@ pub rewrites_back : (a m : List Row) → GrowsTypes a m → (ss : List Sum) (k :
 rewrites_back a m kept ss k new l h r s e = by_case (r s e)
   where
     stays : (t : Sum) (j : ℕ) → j < length ss → t ≡ get_or ss j t → side_in m t ≡ side_in a t
-    stays t j n f = side_kept a m kept t (all_get (SumStands a) ss j t h n f)
+    stays t j n f = side_kept a m kept t (all_there (SumStands a) ss j t h n f)
 
     by_case : SameSide (side_in m s) new ⊎ UsesEarlier m ss k s new → SameSide (side_in a s) new ⊎ UsesEarlier a ss k s new
     by_case (inl w) = inl (subst (λ x. SameSide x new) (stays s k l e) w)
@@ -167,4 +167,4 @@ rewrites_back a m kept ss k new l h r s e = by_case (r s e)
     })
 
 pub all_stand_kept : (a b : List Row) → GrowsTypes a b → (ss : List Sum) → AllStand a ss → AllStand b ss
-all_stand_kept a b k ss h = all_map (SumStands a) (SumStands b) ss (λ x. stands_kept a b k x) h
+all_stand_kept a b k ss h = all_more (SumStands a) (SumStands b) ss (λ x. stands_kept a b k x) h

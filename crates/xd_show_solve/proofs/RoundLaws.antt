@@ -1,7 +1,10 @@
 -- Laws of unknowns that are taken out at once.
-use Rattle.std.proofs.Common.{◌≡◌, ◌⊎◌, ◌↔◌, inl, inr, ℕ, zero, suc, ◌+◌, ◌<◌, ◌≤◌, nat_eq, Bool, true, false, not, ◌&&◌, refl, sym, ap, ◌∙◌, subst, List, [], ◌∷◌, ◌++◌, length, get_or, set, Option, Some, None, arith}
+use Rattle.std.proofs.Common.{◌≡◌, ◌⊎◌, inl, inr, ℕ, zero, suc, ◌+◌, ◌<◌, ◌≤◌, nat_eq, Bool, true, false, not, ◌&&◌, refl, sym, ap, ◌∙◌, subst, List, [], ◌∷◌, ◌++◌, length, get_or, set, Option, Some, None, arith}
 use Rattle.std.specs.List.{AllByRecursion}
 use Rattle.std.specs.Option.{IfSome}
+use Rattle.xd_doc.proofs.Bools.{and_parts, not_true}
+use Rattle.xd_doc.proofs.Lists.{all_more, all_there, all_but_last}
+use Rattle.xd_doc.proofs.Numbers.{less_cases}
 use Rattle.xd_syntax.specs.Tree.{Tree}
 use Rattle.xd_syntax.specs.Table.{Row}
 use Rattle.xd_same_types.specs.Grown.{GrowsTypes}
@@ -11,25 +14,13 @@ use Rattle.xd_show_solve.specs.Rounds.{AddsTaken, AreApart, AreOwns, IsOwn, IsTa
 use Rattle.xd_show_solve.specs.Systems.{AllStand, AreEquations, AreFineSums, SumsTops, is_alive}
 use Rattle.xd_show_solve.specs.declared.sums.Term.{Term}
 use Rattle.xd_show_solve.specs.declared.sums.Sum.{Sum}
-use Rattle.xd_same_types.proofs.Facts.{all_map, iff_back, iff_then, or_same}
+use Rattle.xd_same_types.proofs.Facts.{iff_back, iff_then, or_same}
 use Rattle.xd_same_types.proofs.Ids.{got}
-use Rattle.xd_same_types.proofs.Tables.{all_get}
-use Rattle.xd_show_solve.proofs.SideLaws.{a_side}
-use Rattle.xd_show_solve.proofs.SolveLaws.{all_last, side_pushed}
+use Rattle.xd_show_solve.proofs.SideLaws.{a_side, iff_refl}
+use Rattle.xd_show_solve.proofs.SolveLaws.{side_pushed}
 use Rattle.xd_show_solve.proofs.SumLaws.{fine_above, split_same}
 use Rattle.xd_show_solve.proofs.SumSteps.{side_kept, stands_kept}
 use Rattle.xd_show_solve.proofs.SystemLaws.{StillHold, living, set_count, set_here, set_other}
-
-iff_refl : (A : Type 0) → A ↔ A
-iff_refl A = (λ a. a, λ a. a)
-
-and_parts : (p q : Bool) → (p && q) ≡ true → (p ≡ true) × (q ≡ true)
-and_parts true q k = (refl, k)
-and_parts false q k = cc
-
-not_true : (b : Bool) → not b ≡ true → b ≡ false
-not_true true e = cc
-not_true false e = refl
 
 -- what is allowed and isn't taken out
 still : (allowed : ℕ → Bool) (owns : List (Option Sum)) (j : ℕ) → allowed j ≡ true → is_out owns j ≡ false → allowed_still allowed owns j ≡ true
@@ -47,8 +38,8 @@ pub taken_more : (types : List Row) (owns : List (Option Sum)) (now new : Side) 
 taken_more types owns now new o ps p h a = record {
   takes = λ N X eq d. iff_then (a.takes N X eq d) (iff_then (or_same (h.takes N X eq d) (iff_refl (ProductTakes N X d p))) (iff_back (side_pushed N X d ps p o)));
   fine = λ allowed ranks bound f g.
-      let l = all_last (IsFine allowed ranks bound) ps p f in a.fine allowed ranks bound l.1 g (h.fine allowed ranks bound l.0 g);
-  tops = λ known g f. let l = all_last (λ (q : Product). HasTops known q.by) ps p f.0 in a.tops known l.1 g (h.tops known g (l.0, f.1));
+      let l = all_but_last (IsFine allowed ranks bound) ps p f in a.fine allowed ranks bound l.1 g (h.fine allowed ranks bound l.0 g);
+  tops = λ known g f. let l = all_but_last (λ (q : Product). HasTops known q.by) ps p f.0 in a.tops known l.1 g (h.tops known g (l.0, f.1));
 }
 
 pub taken_other : (types : List Row) (owns : List (Option Sum)) (now new : Side) (p : Product) → is_out owns p.to ≡ false → AddsProduct now p new → AddsTaken types owns now p new
@@ -70,7 +61,7 @@ taken_own types owns now new p own e a = record {
     go : (allowed : ℕ → Bool) (ranks : List ℕ) (bound : ℕ) → IsFineSide (allowed_still allowed owns) ranks (get_or ranks p.to 0) (side_in types own) → IsFineSide (allowed_still allowed owns) ranks bound now →
         TakesItem p.by ⊎ (get_or ranks p.to 0 < bound) → IsFineSide (allowed_still allowed owns) ranks bound new
     go allowed ranks bound g k (inl t) =
-        a.guarded (allowed_still allowed owns) ranks bound k t (all_map (IsFine (allowed_still allowed owns) ranks (get_or ranks p.to 0)) (λ (q : Product). allowed_still allowed owns q.to ≡ true) (side_in types own).products (λ q z. z.use_allowed) g)
+        a.guarded (allowed_still allowed owns) ranks bound k t (all_more (IsFine (allowed_still allowed owns) ranks (get_or ranks p.to 0)) (λ (q : Product). allowed_still allowed owns q.to ≡ true) (side_in types own).products (λ q z. z.use_allowed) g)
     go allowed ranks bound g k (inr l) =
         let m : get_or ranks p.to 0 ≤ bound = omega arith in
         a.fine (allowed_still allowed owns) ranks bound k (fine_above (allowed_still allowed owns) ranks (get_or ranks p.to 0) bound (side_in types own).products m g)
@@ -170,14 +161,6 @@ takes_first_none a owns sums = record {
   left = λ i s l. refl;
 }
 
-less_cases : (i n : ℕ) → i < n + 1 → (i < n) ⊎ (i ≡ n)
-less_cases i zero l = inr (omega arith)
-less_cases zero (suc n) l = inl (omega arith)
-less_cases (suc i) (suc n) l = let m : i < n + 1 = omega arith in elim (less_cases i n m) [
-  | inl k ↦ inl (omega arith)
-  | inr e ↦ inr (ap suc e)
-]
-
 pub takes_first_more : (a m b : List Row) → GrowsTypes a m → GrowsTypes m b → (owns : List (Option Sum)) → OwnsStand a owns → (n : ℕ) (sums now new : List Sum) → AllStand a sums → AllStand m now →
     TakesFirst a m owns n sums now → TakesAt m b owns n now new → n < length sums → TakesFirst a b owns (n + 1) sums new
 takes_first_more a m b am mb owns st n sums now new hs hn f r l = record {
@@ -191,14 +174,14 @@ takes_first_more a m b am mb owns st n sums now new hs hn f r l = record {
         let d : i ≡ n → ⊥ = λ e. absurd (omega arith) in
         let q2 : t ≡ get_or now i t = q ∙ r.others i t d in
         let c : i < length now = let e = f.count in omega arith in
-        let st = all_get (SumStands m) now i t hn c q2 in
+        let st = all_there (SumStands m) now i t hn c q2 in
         subst (λ y. IsTakenUnless (is_out owns i) a owns (side_in a s) y) (sym (side_kept m b mb t st)) (f.done i s t k j p q2)
     go i s t j p q (inr e) =
         let p2 : s ≡ get_or sums n s = subst (λ x. s ≡ get_or sums x s) e p in
         let q2 : t ≡ get_or new n t = subst (λ x. t ≡ get_or new x t) e q in
         let z : n ≤ n = omega arith in
         let p3 : s ≡ get_or now n s = p2 ∙ sym (f.left n s z) in
-        let sa = all_get (SumStands a) sums i s hs j p in
+        let sa = all_there (SumStands a) sums i s hs j p in
         subst (λ k. IsTakenUnless (is_out owns k) a owns (side_in a s) (side_in b t)) (sym e)
         (subst (λ y. IsTakenUnless (is_out owns n) a owns y (side_in b t)) (side_kept a m am s sa)
         (unless_before a m am owns st (is_out owns n) (side_in m s) (side_in b t) (r.here s t p3 q2)))
@@ -235,7 +218,7 @@ takes_some a m b am sums now alive left owns st own apart each leaves = record {
       let s = get_or sums i t in
       let p = got sums i t j in
       let r = taken_at i s t j p q (staying i v).1 in
-      all_map (IsFine (allowed_still (is_alive alive) owns) ranks (get_or ranks i 0)) (IsFine (is_alive left) ranks (get_or ranks i 0)) (side_in b t).products
+      all_more (IsFine (allowed_still (is_alive alive) owns) ranks (get_or ranks i 0)) (IsFine (is_alive left) ranks (get_or ranks i 0)) (side_in b t).products
       (λ x f. record { use_allowed = leaves.alive x.to ∙ f.use_allowed; guarded = f.guarded })
       (r.fine (is_alive alive) ranks (get_or ranks i 0) (fine i s j (staying i v).0 p) (owns_fine ranks fine));
   tops = λ known h. λ i t k q.
@@ -243,7 +226,7 @@ takes_some a m b am sums now alive left owns st own apart each leaves = record {
       let s = get_or sums i t in
       let p = got sums i t j in
       (each.each i s t j p q).tops known (λ n o e. ((own n o e).solved (get_or sums n o) (got sums n o (own n o e).within)).tops known (h n (get_or sums n o) (own n o e).within (got sums n o (own n o e).within)))
-      (subst (SideTops known) (sym (side_kept a m am s (all_get (SumStands a) sums i s st j p))) (h i s j p));
+      (subst (SideTops known) (sym (side_kept a m am s (all_there (SumStands a) sums i s st j p))) (h i s j p));
 }
   where
     staying : (j : ℕ) → is_alive left j ≡ true → (is_alive alive j ≡ true) × (is_out owns j ≡ false)
@@ -255,7 +238,7 @@ takes_some a m b am sums now alive left owns st own apart each leaves = record {
 
     taken_at : (i : ℕ) (s t : Sum) → i < length sums → s ≡ get_or sums i s → t ≡ get_or now i t → is_out owns i ≡ false → IsTaken m owns (side_in a s) (side_in b t)
     taken_at i s t j p q e =
-        subst (λ x. IsTaken m owns x (side_in b t)) (side_kept a m am s (all_get (SumStands a) sums i s st j p)) ((each.each i s t j p q).taken e)
+        subst (λ x. IsTaken m owns x (side_in b t)) (side_kept a m am s (all_there (SumStands a) sums i s st j p)) ((each.each i s t j p q).taken e)
 
     equal : (N : Meaning) (X : Unknowns) (ranks : List ℕ) → AreFineSums a alive ranks sums → AreEquations N X a alive sums → OwnsEqual N X m owns
     equal N X ranks fine eqs i o e =
@@ -284,7 +267,7 @@ takes_none a b k sums alive st = record {
 }
   where
     stays : (i : ℕ) (s : Sum) → i < length sums → s ≡ get_or sums i s → side_in b s ≡ side_in a s
-    stays i s l e = side_kept a b k s (all_get (SumStands a) sums i s st l e)
+    stays i s l e = side_kept a b k s (all_there (SumStands a) sums i s st l e)
 
 -- right sides of unknowns that are taken out, one more
 own_pushed : (xs : List (Option Sum)) (o : Option Sum) (i : ℕ) (own : Sum) → own_at (xs ++ o ∷ []) i ≡ Some own → (own_at xs i ≡ Some own) ⊎ ((i ≡ length xs) × (o ≡ Some own))
@@ -324,7 +307,7 @@ owns_more a m b am mb sums alive owns n asked s o st l e count later there solve
           solved = λ t r.
               let is : t ≡ s = r ∙ same_read sums n t s l ∙ sym e in
               subst (λ y. IsSolved n (side_in a y) (side_in b own)) (sym is)
-              (subst (λ y. IsSolved n y (side_in b own)) (side_kept a m am s (all_get (SumStands a) sums n s st l e))
+              (subst (λ y. IsSolved n y (side_in b own)) (side_kept a m am s (all_there (SumStands a) sums n s st l e))
               (subst (λ y. IsSolved n (side_in m s) (side_in b y)) same z.1));
           stands = subst (SumStands b) same w;
         }

@@ -1,7 +1,9 @@
 -- Laws of sides that are written shorter.
-use Rattle.std.proofs.Common.{◌≡◌, ◌⊎◌, ◌↔◌, inl, inr, ℕ, zero, suc, ◌<◌, true, refl, sym, ap, ◌∙◌, subst, List, [], ◌∷◌, ◌++◌, length, get_or, Option, Some, None, arith}
+use Rattle.std.proofs.Common.{◌≡◌, ◌⊎◌, inl, inr, ℕ, zero, suc, ◌<◌, true, refl, sym, ap, ◌∙◌, subst, List, [], ◌∷◌, ◌++◌, length, get_or, Option, Some, None, arith}
 use Rattle.std.specs.List.{AllByRecursion}
 use Rattle.xd_doc.specs.Document.{Document}
+use Rattle.xd_doc.proofs.Lists.{all_but_last}
+use Rattle.xd_doc.proofs.Logic.{sum_map}
 use Rattle.xd_syntax.specs.Tree.{Tree, Empty}
 use Rattle.xd_syntax.specs.Ways.{Among}
 use Rattle.xd_syntax.specs.Table.{Row}
@@ -11,10 +13,10 @@ use Rattle.xd_same_types.specs.Same.{HasTops}
 use Rattle.xd_show_solve.specs.Equations.{Product, Side, Unknowns, ProductTakes, SomeTakes, ConstantTakes, SideTakes, Equals, IsFine, AddsProduct, AddsUnless, IsShort, Shortens, SameSide, Covers, product_in, products, side_in, kept_constant}
 use Rattle.xd_show_solve.specs.declared.sums.Term.{Term}
 use Rattle.xd_show_solve.specs.declared.sums.Sum.{Sum}
-use Rattle.xd_show_solve.proofs.SideLaws.{a_side, a_product}
-use Rattle.xd_show_solve.proofs.SolveLaws.{side_pushed, all_last}
+use Rattle.xd_show_solve.proofs.SideLaws.{a_side, a_product, iff_refl}
+use Rattle.xd_show_solve.proofs.SolveLaws.{side_pushed}
 use Rattle.xd_same_types.proofs.Splits.{then_only, none_then}
-use Rattle.xd_same_types.proofs.Facts.{or_map, or_same, iff_then, iff_back}
+use Rattle.xd_same_types.proofs.Facts.{or_same, iff_then, iff_back}
 use Rattle.xd_show_solve.proofs.SumSteps.{constant_of}
 
 pub same_term : (t u : Term) → t.to ≡ u.to → t.by.at ≡ u.by.at → t ≡ u
@@ -25,9 +27,6 @@ same_term t u e f = ap by_at f ∙ ap by_to e
 
     by_to : ℕ → Term
     by_to n = record { by = record { at = u.by.at }; to = n }
-
-iff_refl : (A : Type 0) → A ↔ A
-iff_refl A = (λ a. a, λ a. a)
 
 -- it stands at a place
 pub among_at : {A : Type 0} (xs : List A) (k : ℕ) (x : A) → k < length xs → x ≡ get_or xs k x → Among x xs
@@ -52,7 +51,7 @@ constant_within N d a o p (inr e) f = subst (λ x. ConstantTakes N d (constant_o
 
 -- what is covered is within
 pub covered_within : (a : List Row) (s t : Sum) → Covers s t → (N : Meaning) (X : Unknowns) (d : Document) → SideTakes N X d (side_in a t) → SideTakes N X d (side_in a s)
-covered_within a s t c N X d f = or_map (all_among_take N X d a s.terms.items t.terms.items c.terms) (constant_within N d a s.constant t.constant c.constant) f
+covered_within a s t c N X d f = sum_map (all_among_take N X d a s.terms.items t.terms.items c.terms) (constant_within N d a s.constant t.constant c.constant) f
 
 -- one product more, or none
 pub unless_not : (other now new : Side) (p : Product) → AddsProduct now p new → AddsUnless other now p new
@@ -77,10 +76,10 @@ unless_had a other now t m = record {
 
 pub short_more : (other now new : Side) (ps : List Product) (o : Option Tree) (p : Product) → IsShort other (a_side ps o) now → AddsUnless other now p new → IsShort other (a_side (ps ++ p ∷ []) o) new
 short_more other now new ps o p h a = record {
-  within = λ N X d f. (side_pushed N X d ps p o).1 (or_map (h.within N X d) (λ x. x) (a.within N X d f));
+  within = λ N X d f. (side_pushed N X d ps p o).1 (sum_map (h.within N X d) (λ x. x) (a.within N X d f));
   covered = λ N X d f. go N X d ((side_pushed N X d ps p o).0 f);
-  fine = λ allowed ranks bound f. let l = all_last (IsFine allowed ranks bound) ps p f in a.fine allowed ranks bound (h.fine allowed ranks bound l.0) l.1;
-  tops = λ known f. let l = all_last (λ (q : Product). HasTops known q.by) ps p f.0 in a.tops known (h.tops known (l.0, f.1)) l.1;
+  fine = λ allowed ranks bound f. let l = all_but_last (IsFine allowed ranks bound) ps p f in a.fine allowed ranks bound (h.fine allowed ranks bound l.0) l.1;
+  tops = λ known f. let l = all_but_last (λ (q : Product). HasTops known q.by) ps p f.0 in a.tops known (h.tops known (l.0, f.1)) l.1;
 }
   where
     first : (N : Meaning) (X : Unknowns) (d : Document) → SideTakes N X d now ⊎ SideTakes N X d other → SideTakes N X d new ⊎ SideTakes N X d other
@@ -136,8 +135,8 @@ same_none o = record { takes = λ N X d. iff_refl (SideTakes N X d (a_side [] o)
 pub same_more : (now new : Side) (ps : List Product) (o : Option Tree) (p : Product) → SameSide (a_side ps o) now → AddsProduct now p new → SameSide (a_side (ps ++ p ∷ []) o) new
 same_more now new ps o p h a = record {
   takes = λ N X d. iff_then (a.takes N X d) (iff_then (or_same (h.takes N X d) (iff_refl (ProductTakes N X d p))) (iff_back (side_pushed N X d ps p o)));
-  fine = λ allowed ranks bound f. let l = all_last (IsFine allowed ranks bound) ps p f in a.fine allowed ranks bound (h.fine allowed ranks bound l.0) l.1;
-  tops = λ known f. let l = all_last (λ (q : Product). HasTops known q.by) ps p f.0 in a.tops known (h.tops known (l.0, f.1)) l.1;
+  fine = λ allowed ranks bound f. let l = all_but_last (IsFine allowed ranks bound) ps p f in a.fine allowed ranks bound (h.fine allowed ranks bound l.0) l.1;
+  tops = λ known f. let l = all_but_last (λ (q : Product). HasTops known q.by) ps p f.0 in a.tops known (h.tops known (l.0, f.1)) l.1;
 }
 
 pub same_then : (s mid new : Side) → SameSide s mid → SameSide mid new → SameSide s new

@@ -1,12 +1,12 @@
 -- Laws of right sides as they grow.
 use Rattle.std.proofs.Common.{◌≡◌, ◌⊎◌, ◌↔◌, ℕ, ◌<◌, true, ◌∙◌, List, [], ◌∷◌, ◌++◌, length, Option, Some, None, get_or, set}
-use Rattle.std.specs.List.{AllByRecursion}
+use Rattle.xd_doc.proofs.Lists.{all_push, all_set, all_there, all_but_last}
 use Rattle.xd_syntax.specs.Tree.{Tree, Seq, Alt}
 use Rattle.xd_same_types.specs.Same.{FitsAs, MeansSame}
 use Rattle.xd_same_types.specs.Same.{HasTops}
 use Rattle.xd_show_solve.specs.Equations.{Product, Side, ProductTakes, SomeTakes, ConstantTakes, SideTakes, IsFine, AddsProduct, AddsConstant, AddsMultiple}
 use Rattle.xd_same_types.proofs.Tops.{both_true}
-use Rattle.xd_same_types.proofs.Facts.{or_left, or_right, or_swap, or_none, or_same, iff_then, iff_back, all_set, all_push, all_at}
+use Rattle.xd_same_types.proofs.Facts.{or_left, or_right, or_swap, or_none, or_same, iff_then, iff_back}
 use Rattle.xd_show_solve.proofs.SumLaws.{split_or, split_never, split_same, product_same, product_alt, product_seq, some_append, some_set, fine_same, fine_alt, fine_seq, fine_guarded}
 
 abbrev pub a_side : List Product → Option Tree → Side
@@ -15,11 +15,11 @@ a_side ps o = record { products = ps; constant = o }
 abbrev pub a_product : Tree → ℕ → Product
 a_product T i = record { by = T; to = i }
 
-iff_refl : (A : Type 0) → A ↔ A
+pub iff_refl : (A : Type 0) → A ↔ A
 iff_refl A = (λ a. a, λ a. a)
 
 -- (A or C) or B, as (A or B) or C
-swap_both : {A B C : Type 0} → ((A ⊎ B) ⊎ C) ↔ ((A ⊎ C) ⊎ B)
+pub swap_both : {A B C : Type 0} → ((A ⊎ B) ⊎ C) ↔ ((A ⊎ C) ⊎ B)
 swap_both = (or_swap, or_swap)
 
 pub product_pushed : (ps : List Product) (o : Option Tree) (p : Product) → AddsProduct (a_side ps o) p (a_side (ps ++ p ∷ []) o)
@@ -37,9 +37,9 @@ product_put ps o k T U V i l e s = record {
       swap_both;
   fine = λ allowed ranks bound h f.
       all_set (IsFine allowed ranks bound) ps k (a_product V i) h
-      (fine_same allowed ranks bound V (Alt T U) i s (fine_alt allowed ranks bound T U i (all_at (IsFine allowed ranks bound) ps k (a_product T i) h l e) f));
+      (fine_same allowed ranks bound V (Alt T U) i s (fine_alt allowed ranks bound T U i (all_there (IsFine allowed ranks bound) ps k (a_product T i) h l e) f));
   tops = λ known h t.
-      let o = all_at (λ (q : Product). HasTops known q.by) ps k (a_product T i) h.0 l e in
+      let o = all_there (λ (q : Product). HasTops known q.by) ps k (a_product T i) h.0 l e in
       (all_set (λ (q : Product). HasTops known q.by) ps k (a_product V i) h.0 (s.tops known ∙ both_true o t), h.1);
 }
 
@@ -73,10 +73,6 @@ multiple_none old A = record {
   tops = λ known h t k. h;
 }
 
-all_last : {A : Type 0} (P : A → Type 0) (xs : List A) (y : A) → AllByRecursion P (xs ++ y ∷ []) → AllByRecursion P xs × P y
-all_last P [] y h = (tt, h.0)
-all_last P (x ∷ xs) y h = let i = all_last P xs y h.1 in ((h.0, i.0), i.1)
-
 pub multiple_more : (old now new : Side) (A P : Tree) (ps : List Product) (p : Product) → AddsMultiple old A (a_side ps None) now → MeansSame P (Seq A p.by) → AddsProduct now (a_product P p.to) new →
     AddsMultiple old A (a_side (ps ++ p ∷ []) None) new
 multiple_more old now new A P ps p m s a = record {
@@ -87,13 +83,13 @@ multiple_more old now new A P ps p m s a = record {
       iff_then (a.takes N X d) (iff_then (or_same (m.takes N X d) one) (iff_then (or_right, or_left)
       (or_same (iff_refl (SideTakes N X d old)) (iff_back (iff_then all (split_or (FitsAs N A) (λ e. SideTakes N X e (a_side ps None)) (λ e. ProductTakes N X e p) d))))));
   fine = λ allowed ranks bound h k.
-      let l = all_last (IsFine allowed ranks bound) ps p k in
+      let l = all_but_last (IsFine allowed ranks bound) ps p k in
       a.fine allowed ranks bound (m.fine allowed ranks bound h l.0) (fine_same allowed ranks bound P (Seq A p.by) p.to s (fine_seq allowed ranks bound A p.by p.to l.1));
   guarded = λ allowed ranks bound h t k.
-      let l = all_last (λ (q : Product). allowed q.to ≡ true) ps p k in
+      let l = all_but_last (λ (q : Product). allowed q.to ≡ true) ps p k in
       a.fine allowed ranks bound (m.guarded allowed ranks bound h t l.0) (fine_same allowed ranks bound P (Seq A p.by) p.to s (fine_guarded allowed ranks bound A p.by p.to t l.1));
   tops = λ known h t k.
-      let l = all_last (λ (q : Product). HasTops known q.by) ps p k.0 in
+      let l = all_but_last (λ (q : Product). HasTops known q.by) ps p k.0 in
       a.tops known (m.tops known h t (l.0, tt)) (s.tops known ∙ both_true t l.1);
 }
 

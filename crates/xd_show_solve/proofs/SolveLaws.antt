@@ -1,8 +1,8 @@
 -- Laws of equations that are solved for one unknown after the other.
 use Rattle.std.proofs.Common.{◌≡◌, ◌⊎◌, ◌↔◌, inl, inr, ℕ, ◌<◌, ◌≤◌, nat_eq, Bool, true, false, not, ◌&&◌, sym, ap, ◌∙◌, subst, List, [], ◌∷◌, ◌++◌, Option, Some, None, get_or, arith}
-use Rattle.std.specs.List.{AllByRecursion}
 use Rattle.std.specs.Option.{IfSome}
 use Rattle.xd_doc.specs.Document.{Document}
+use Rattle.xd_doc.proofs.Lists.{all_more, all_but_last}
 use Rattle.xd_syntax.specs.Tree.{Tree, Alt, Star}
 use Rattle.xd_syntax.specs.Fits.{Split}
 use Rattle.xd_same_types.specs.Same.{Meaning, FitsAs, MeansSame, TakesItem}
@@ -10,15 +10,9 @@ use Rattle.xd_same_types.specs.Same.{HasTops}
 use Rattle.xd_show_solve.specs.Equations.{Product, Side, Unknowns, ProductTakes, SomeTakes, ConstantTakes, SideTakes, IsFine, IsFineSide, AddsProduct, AddsMultiple, OwnTakes, OwnMore, IsParted, IsSolved, IsReplaced, PartsMore, AddsReplaced, allowed_but}
 use Rattle.xd_same_types.proofs.Laws.{takes_same, takes_alt}
 use Rattle.xd_same_types.proofs.Tops.{both_true}
-use Rattle.xd_show_solve.proofs.SideLaws.{a_side, a_product}
-use Rattle.xd_same_types.proofs.Facts.{or_left, or_right, or_swap, or_none, none_or, or_same, iff_then, iff_back, all_map}
+use Rattle.xd_show_solve.proofs.SideLaws.{a_side, a_product, iff_refl, swap_both}
+use Rattle.xd_same_types.proofs.Facts.{or_left, or_right, or_none, none_or, or_same, iff_then, iff_back}
 use Rattle.xd_show_solve.proofs.SumLaws.{split_same, product_same, product_alt, some_append, fine_above, solves}
-
-iff_refl : (A : Type 0) → A ↔ A
-iff_refl A = (λ a. a, λ a. a)
-
-swap_both : {A B C : Type 0} → ((A ⊎ B) ⊎ C) ↔ ((A ⊎ C) ⊎ B)
-swap_both = (or_swap, or_swap)
 
 -- what is allowed and is another one
 pub but_other : (allowed : ℕ → Bool) (i j : ℕ) → allowed j ≡ true → nat_eq j i ≡ false → allowed_but allowed i j ≡ true
@@ -26,10 +20,6 @@ but_other allowed i j a e = subst (λ b. (b && not (nat_eq j i)) ≡ true) (sym 
 
 pub fine_other : (allowed : ℕ → Bool) (ranks : List ℕ) (bound i : ℕ) (p : Product) → nat_eq p.to i ≡ false → IsFine allowed ranks bound p → IsFine (allowed_but allowed i) ranks bound p
 fine_other allowed ranks bound i p e f = record { use_allowed = but_other allowed i p.to f.use_allowed e; guarded = f.guarded }
-
-pub all_last : {A : Type 0} (P : A → Type 0) (xs : List A) (y : A) → AllByRecursion P (xs ++ y ∷ []) → AllByRecursion P xs × P y
-all_last P [] y h = (tt, h.0)
-all_last P (x ∷ xs) y h = let i = all_last P xs y h.1 in ((h.0, i.0), i.1)
 
 pub side_pushed : (N : Meaning) (X : Unknowns) (d : Document) (ps : List Product) (p : Product) (o : Option Tree) → SideTakes N X d (a_side (ps ++ p ∷ []) o) ↔ (SideTakes N X d (a_side ps o) ⊎ ProductTakes N X d p)
 side_pushed N X d ps p o =
@@ -47,9 +37,9 @@ parted_none i o = record {
 pub parted_more : (i : ℕ) (o own more : Option Tree) (ps : List Product) (p : Product) (rest new : Side) → IsParted (a_side ps o) i own rest → PartsMore i own rest p more new → IsParted (a_side (ps ++ p ∷ []) o) i more new
 parted_more i o own more ps p rest new h m = record {
   takes = λ N X d. iff_then (side_pushed N X d ps p o) (iff_then (or_same (h.takes N X d) (iff_refl (ProductTakes N X d p))) (iff_back (m.takes N X d)));
-  item = λ allowed ranks f. let l = all_last (IsFine allowed ranks (get_or ranks i 0)) ps p f in m.item allowed ranks l.1 (h.item allowed ranks l.0);
-  fine = λ allowed ranks bound f. let l = all_last (IsFine allowed ranks bound) ps p f in m.fine allowed ranks bound l.1 (h.fine allowed ranks bound l.0);
-  tops = λ known f. let l = all_last (λ (q : Product). HasTops known q.by) ps p f.0 in m.tops known l.1 (h.tops known (l.0, f.1));
+  item = λ allowed ranks f. let l = all_but_last (IsFine allowed ranks (get_or ranks i 0)) ps p f in m.item allowed ranks l.1 (h.item allowed ranks l.0);
+  fine = λ allowed ranks bound f. let l = all_but_last (IsFine allowed ranks bound) ps p f in m.fine allowed ranks bound l.1 (h.fine allowed ranks bound l.0);
+  tops = λ known f. let l = all_but_last (λ (q : Product). HasTops known q.by) ps p f.0 in m.tops known l.1 (h.tops known (l.0, f.1));
 }
 
 pub parts_other : (i : ℕ) (own : Option Tree) (rest new : Side) (p : Product) → nat_eq p.to i ≡ false → AddsProduct rest p new → PartsMore i own rest p own new
@@ -117,8 +107,8 @@ pub replaced_more : (i : ℕ) (by now new : Side) (o : Option Tree) (ps : List P
 replaced_more i by now new o ps p h a = record {
   takes = λ N X eq d. iff_then (a.takes N X eq d) (iff_then (or_same (h.takes N X eq d) (iff_refl (ProductTakes N X d p))) (iff_back (side_pushed N X d ps p o)));
   fine = λ allowed ranks bound f g.
-      let l = all_last (IsFine allowed ranks bound) ps p f in a.fine allowed ranks bound l.1 g (h.fine allowed ranks bound l.0 g);
-  tops = λ known g f. let l = all_last (λ (q : Product). HasTops known q.by) ps p f.0 in a.tops known l.1 g (h.tops known g (l.0, f.1));
+      let l = all_but_last (IsFine allowed ranks bound) ps p f in a.fine allowed ranks bound l.1 g (h.fine allowed ranks bound l.0 g);
+  tops = λ known g f. let l = all_but_last (λ (q : Product). HasTops known q.by) ps p f.0 in a.tops known l.1 g (h.tops known g (l.0, f.1));
 }
 
 pub adds_other : (i : ℕ) (by now new : Side) (p : Product) → nat_eq p.to i ≡ false → AddsProduct now p new → AddsReplaced i by now p new
@@ -141,7 +131,7 @@ adds_own i by now new p e a = record {
   where
     go : (allowed : ℕ → Bool) (ranks : List ℕ) (bound : ℕ) → IsFineSide (allowed_but allowed i) ranks (get_or ranks i 0) by → IsFineSide (allowed_but allowed i) ranks bound now →
         TakesItem p.by ⊎ (get_or ranks p.to 0 < bound) → IsFineSide (allowed_but allowed i) ranks bound new
-    go allowed ranks bound g k (inl t) = a.guarded (allowed_but allowed i) ranks bound k t (all_map (IsFine (allowed_but allowed i) ranks (get_or ranks i 0)) (λ (q : Product). allowed_but allowed i q.to ≡ true) by.products (λ q z. z.use_allowed) g)
+    go allowed ranks bound g k (inl t) = a.guarded (allowed_but allowed i) ranks bound k t (all_more (IsFine (allowed_but allowed i) ranks (get_or ranks i 0)) (λ (q : Product). allowed_but allowed i q.to ≡ true) by.products (λ q z. z.use_allowed) g)
     go allowed ranks bound g k (inr l) =
         let q : get_or ranks p.to 0 ≡ get_or ranks i 0 = ap (λ k. get_or ranks k 0) e in
         let m : get_or ranks i 0 ≤ bound = omega arith in

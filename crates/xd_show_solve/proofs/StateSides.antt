@@ -1,8 +1,9 @@
 -- The right side of a state.
 use Rattle.std.proofs.Common.{◌≡◌, ◌⊎◌, ◌↔◌, inl, inr, ℕ, Bool, true, false, refl, sym, subst, List, [], ◌∷◌, ◌++◌, Option, Some}
-use Rattle.std.specs.List.{AllByRecursion, list_any}
+use Rattle.std.specs.List.{list_any}
 use Rattle.std.specs.Option.{IfSome}
 use Rattle.xd_doc.specs.Document.{Document, empty, text, element}
+use Rattle.xd_doc.proofs.Lists.{all_append}
 use Rattle.xd_auto.specs.declared.auto.State.{State}
 use Rattle.xd_auto.specs.Automaton.{Automaton, accepts, moves_at, takes_word, takes_element}
 use Rattle.xd_syntax.specs.Tree.{Tree, Name}
@@ -13,16 +14,9 @@ use Rattle.xd_same_types.specs.Same.{Meaning, TakesItem}
 use Rattle.xd_same_types.specs.Same.{HasTops}
 use Rattle.xd_show_solve.specs.Equations.{Product, Side, ConstantTakes}
 use Rattle.xd_show_solve.specs.Levels.{LabelsTake, TextsTake, HasPlace, AreLabelProducts, AreTextProducts, IsStateSide, last_tree}
-use Rattle.xd_show_solve.proofs.SideLaws.{a_side}
+use Rattle.xd_show_solve.proofs.SideLaws.{a_side, iff_refl}
 use Rattle.xd_same_types.proofs.Facts.{iff_then, or_same}
 use Rattle.xd_show_solve.proofs.SumLaws.{some_append}
-
-pub all_append : {A : Type 0} (P : A → Type 0) (xs ys : List A) → AllByRecursion P xs → AllByRecursion P ys → AllByRecursion P (xs ++ ys)
-all_append P [] ys h g = g
-all_append P (x ∷ xs) ys h g = (h.0, all_append P xs ys h.1 g)
-
-iff_refl : (A : Type 0) → A ↔ A
-iff_refl A = (λ a. a, λ a. a)
 
 last_empty : (N : Meaning) (b : Bool) → ConstantTakes N empty (last_tree b) ↔ (b ≡ true)
 last_empty N true = (λ e. refl, λ e. refl)

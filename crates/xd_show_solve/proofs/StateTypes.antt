@@ -1,6 +1,7 @@
 -- The type of a state, by the equations of its level.
 use Rattle.std.proofs.Common.{◌≡◌, ◌⊎◌, ◌↔◌, inl, inr, ℕ, zero, suc, ◌<◌, true, sym, ap, ◌∙◌, subst, List, [], ◌∷◌, ◌++◌, length, get_or, Option, arith}
 use Rattle.std.specs.List.{AllByRecursion}
+use Rattle.xd_doc.proofs.Lists.{all_there, same_at}
 use Rattle.xd_auto.specs.declared.auto.State.{State}
 use Rattle.xd_auto.specs.Automaton.{Automaton, accepts}
 use Rattle.xd_auto.specs.declared.auto.LabelMove.{LabelMove}
@@ -13,11 +14,10 @@ use Rattle.xd_show_solve.specs.Equations.{Product, Side, Unknowns, IsFine, Const
 use Rattle.xd_show_solve.specs.Systems.{AllStand, AreEquations, AreFineSums, IsSolution, Reduces, SumsTops, is_alive, all_alive}
 use Rattle.xd_show_solve.specs.Levels.{AreContents, MeansAny, ArePlaced, ArePlaces, AreStateSums, HasPlace, IsLevel, IsReady, IsStateSide, IsStateType, IsWritten, WrittenBelong}
 use Rattle.xd_show_solve.specs.declared.sums.Sum.{Sum}
-use Rattle.xd_same_types.proofs.Ids.{default_free, got}
+use Rattle.xd_same_types.proofs.Ids.{got}
 use Rattle.xd_show_solve.proofs.ReduceLaws.{alive_there, pushed_cases}
 use Rattle.xd_show_solve.proofs.LevelLaws.{contents_stay}
 use Rattle.xd_show_solve.proofs.SumSteps.{side_kept}
-use Rattle.xd_same_types.proofs.Tables.{all_get}
 use Rattle.xd_same_types.proofs.Facts.{iff_back}
 
 -- what the states of a level accept
@@ -82,10 +82,10 @@ pub state_sums_more : (o : Automaton) (a m b : List Row) → GrowsTypes a m → 
 state_sums_more o a m b early late written places states sums i s t h st q n g r w k x y l e f = by_case (pushed_cases sums t k y l f)
   where
     by_case : ((k < length sums) × (y ≡ get_or sums k y)) ⊎ ((k ≡ length sums) × (y ≡ t)) → IsStateSide o a written places x (side_in b y)
-    by_case (inl c) = subst (IsStateSide o a written places x) (sym (side_kept m b late y (all_get (SumStands m) sums k y st c.0 c.1))) (r k x y c.0 e c.1)
+    by_case (inl c) = subst (IsStateSide o a written places x) (sym (side_kept m b late y (all_there (SumStands m) sums k y st c.0 c.1))) (r k x y c.0 e c.1)
     by_case (inr c) =
         let j : k ≡ i = c.0 ∙ sym q in
-        let z : x ≡ s = e ∙ ap (λ u. get_or states u x) j ∙ default_free states i x s n ∙ sym g in
+        let z : x ≡ s = e ∙ ap (λ u. get_or states u x) j ∙ same_at states i x s n ∙ sym g in
         subst (λ u. IsStateSide o a written places u (side_in b y)) (sym z) (subst (λ u. IsStateSide o a written places s (side_in b u)) (sym c.1) (state_side_before o a m early written places s (side_in b t) h w))
 
 pub all_ready : (written : List (Option TypeId)) (places : List (Option ℕ)) (ms : List LabelMove) → AllByRecursion (λ (m : LabelMove). IsWritten written m.content) ms → ArePlaced places ms → AllByRecursion (IsReady written places) ms

@@ -2,11 +2,12 @@
 use Rattle.std.proofs.Common.{◌≡◌, ◌⊎◌, ◌↔◌, inl, inr, ℕ, zero, suc, Bool, true, subst, List, [], ◌∷◌, ◌++◌, length, ◌<◌, ◌≤◌, get_or, set, arith}
 use Rattle.std.specs.List.{AllByRecursion}
 use Rattle.xd_doc.specs.Document.{Document, join}
+use Rattle.xd_doc.proofs.Logic.{sum_map}
 use Rattle.xd_syntax.specs.Tree.{Tree, Seq, Alt, Star}
 use Rattle.xd_syntax.specs.Fits.{Split}
 use Rattle.xd_same_types.specs.Same.{Meaning, FitsAs, MeansSame, TakesItem}
 use Rattle.xd_show_solve.specs.Equations.{Product, Unknowns, ProductTakes, SomeTakes, IsFine}
-use Rattle.xd_same_types.proofs.Facts.{or_map, or_left, or_right, or_swap, iff_back, none_or}
+use Rattle.xd_same_types.proofs.Facts.{or_left, or_right, or_swap, iff_back, none_or}
 use Rattle.xd_same_types.proofs.Splits.{split_map, split_left, split_right}
 use Rattle.xd_show_solve.proofs.Arden.{arden_in, arden_out}
 use Rattle.xd_same_types.proofs.Laws.{takes_same, takes_alt, takes_seq_left, takes_seq_right}
@@ -63,23 +64,23 @@ pub some_append : (N : Meaning) (X : Unknowns) (d : Document) (ps qs : List Prod
 some_append N X d [] qs = iff_back none_or
 some_append N X d (p ∷ ps) qs =
     let i = some_append N X d ps qs in
-    (λ h. or_left (or_map (λ k. k) i.0 h), λ h. or_map (λ k. k) i.1 (or_right h))
+    (λ h. or_left (sum_map (λ k. k) i.0 h), λ h. sum_map (λ k. k) i.1 (or_right h))
 
 pub some_set : (N : Meaning) (X : Unknowns) (d : Document) (ps : List Product) (k : ℕ) (o q p : Product) → k < length ps → o ≡ get_or ps k o →
     ProductTakes N X d q ↔ (ProductTakes N X d o ⊎ ProductTakes N X d p) → SomeTakes N X d (set ps k q) ↔ (SomeTakes N X d ps ⊎ ProductTakes N X d p)
 some_set N X d [] k o q p l e h = absurd (omega arith)
 some_set N X d (r ∷ ps) zero o q p l e h =
     let g : ProductTakes N X d q ↔ (ProductTakes N X d r ⊎ ProductTakes N X d p) = subst (λ x. ProductTakes N X d q ↔ (ProductTakes N X d x ⊎ ProductTakes N X d p)) e h in
-    (λ k. or_swap (or_map g.0 (λ s. s) k), λ k. or_map g.1 (λ s. s) (or_swap k))
+    (λ k. or_swap (sum_map g.0 (λ s. s) k), λ k. sum_map g.1 (λ s. s) (or_swap k))
 some_set N X d (r ∷ ps) (suc k) o q p l e h =
     let l2 : k < length ps = omega arith in
     let i = some_set N X d ps k o q p l2 e h in
-    (λ s. or_left (or_map (λ x. x) i.0 s), λ s. or_map (λ x. x) i.1 (or_right s))
+    (λ s. or_left (sum_map (λ x. x) i.0 s), λ s. sum_map (λ x. x) i.1 (or_right s))
 
 -- what is fine
 pub fine_same : (allowed : ℕ → Bool) (ranks : List ℕ) (bound : ℕ) (T U : Tree) (i : ℕ) → MeansSame T U →
     IsFine allowed ranks bound (record { by = U; to = i }) → IsFine allowed ranks bound (record { by = T; to = i })
-fine_same allowed ranks bound T U i s f = record { use_allowed = f.use_allowed; guarded = or_map (takes_same s) (λ l. l) f.guarded }
+fine_same allowed ranks bound T U i s f = record { use_allowed = f.use_allowed; guarded = sum_map (takes_same s) (λ l. l) f.guarded }
 
 pub fine_alt : (allowed : ℕ → Bool) (ranks : List ℕ) (bound : ℕ) (T U : Tree) (i : ℕ) →
     IsFine allowed ranks bound (record { by = T; to = i }) → IsFine allowed ranks bound (record { by = U; to = i }) → IsFine allowed ranks bound (record { by = Alt T U; to = i })
@@ -92,7 +93,7 @@ fine_alt allowed ranks bound T U i f g = record { use_allowed = f.use_allowed; g
 
 pub fine_seq : (allowed : ℕ → Bool) (ranks : List ℕ) (bound : ℕ) (T U : Tree) (i : ℕ) →
     IsFine allowed ranks bound (record { by = U; to = i }) → IsFine allowed ranks bound (record { by = Seq T U; to = i })
-fine_seq allowed ranks bound T U i f = record { use_allowed = f.use_allowed; guarded = or_map (takes_seq_right T U) (λ l. l) f.guarded }
+fine_seq allowed ranks bound T U i f = record { use_allowed = f.use_allowed; guarded = sum_map (takes_seq_right T U) (λ l. l) f.guarded }
 
 pub fine_guarded : (allowed : ℕ → Bool) (ranks : List ℕ) (bound : ℕ) (T U : Tree) (i : ℕ) → TakesItem T → allowed i ≡ true →
     IsFine allowed ranks bound (record { by = Seq T U; to = i })

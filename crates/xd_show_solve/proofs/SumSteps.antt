@@ -1,6 +1,7 @@
 -- Sums over a table that grows.
 use Rattle.std.proofs.Common.{◌≡◌, ℕ, zero, suc, ◌+◌, ◌<◌, arith, refl, sym, ap, ◌∙◌, subst, List, [], ◌∷◌, ◌++◌, length, take, get_or, set, Option, Some, None}
 use Rattle.std.specs.Option.{IfSome, option_map}
+use Rattle.xd_doc.proofs.Lists.{all_there}
 use Rattle.xd_syntax.specs.Tree.{Tree, Seq, Alt}
 use Rattle.xd_syntax.specs.Table.{Row, tree_at}
 use Rattle.xd_same_types.specs.Grown.{GrowsTypes}
@@ -14,7 +15,7 @@ use Rattle.xd_show_solve.specs.declared.sums.Sum.{Sum}
 use Rattle.xd_same_types.proofs.Laws.{same_then, same_of, alt_same, seq_same}
 use Rattle.xd_show_solve.proofs.SideLaws.{a_side, a_product, product_pushed, product_put, constant_first, constant_more, multiple_more, multiple_constant}
 use Rattle.xd_same_types.proofs.Ids.{take_read}
-use Rattle.xd_same_types.proofs.Tables.{kept_tree, kept_belongs, all_get}
+use Rattle.xd_same_types.proofs.Tables.{kept_tree, kept_belongs}
 
 abbrev pub constant_of : List Row → Option TypeId → Option Tree
 constant_of a o = option_map (λ (id : TypeId). tree_at a id.at) o
@@ -95,7 +96,7 @@ pub term_put : (a m b : List Row) → GrowsTypes a m → GrowsTypes m b → Grow
     old.to ≡ term.to → made.to ≡ term.to → t.terms.items ≡ set s.terms.items i made → t.constant ≡ s.constant → MeansSame (tree b made.by) (Alt (tree m old.by) (tree m term.by)) →
     AddsProduct (side_in a s) (product_in a term) (side_in b t)
 term_put a m b am mb ab s t term old made i h l n e q r f g w =
-    let bo : BelongsTo a old.by = all_get (λ (u : Term). BelongsTo a u.by) s.terms.items i old h.terms n e in
+    let bo : BelongsTo a old.by = all_there (λ (u : Term). BelongsTo a u.by) s.terms.items i old h.terms n e in
     let v = same_then w (alt_same (same_of (kept_tree a m am old.by bo)) (same_of (kept_tree a m am term.by l))) in
     let ps = ap (products b) f ∙ products_set b s.terms.items i made ∙ ap (λ xs. set xs i (product_in b made)) (products_kept a b ab s.terms.items h.terms)
     ∙ ap (λ j. set (products a s.terms.items) i (a_product (tree b made.by) j)) r in
@@ -111,7 +112,7 @@ pub term_more : (a m b : List Row) → GrowsTypes a m → (old now new : Side) (
     AddsMultiple old (tree a by) (a_side (products a (take i ts)) None) now → MeansSame (tree b product) (Seq (tree m by) (tree m term.by)) → AddsProduct now (product_in b (record { by = product; to = term.to })) new →
     AddsMultiple old (tree a by) (a_side (products a (take (i + 1) ts)) None) new
 term_more a m b am old now new by ts i term product h l n e s w t =
-    let bt : BelongsTo a term.by = all_get (λ (u : Term). BelongsTo a u.by) ts i term h n e in
+    let bt : BelongsTo a term.by = all_there (λ (u : Term). BelongsTo a u.by) ts i term h n e in
     let v = same_then w (seq_same (same_of (kept_tree a m am by l)) (same_of (kept_tree a m am term.by bt))) in
     subst (λ ps. AddsMultiple old (tree a by) (a_side ps None) new) (sym (ap (products a) (take_read ts i term n e) ∙ products_append a (take i ts) (term ∷ [])))
     (multiple_more old now new (tree a by) (tree b product) (products a (take i ts)) (product_in a term) s v t)
@@ -133,4 +134,4 @@ pub product_kept : (a b : List Row) → GrowsTypes a b → (t : Term) → Belong
 product_kept a b k t h = ap (λ T. a_product T t.to) (kept_tree a b k t.by h)
 
 pub term_belongs : (a : List Row) (ts : List Term) (i : ℕ) (term : Term) → TermsStand a ts → i < length ts → term ≡ get_or ts i term → BelongsTo a term.by
-term_belongs a ts i term h n e = all_get (λ (u : Term). BelongsTo a u.by) ts i term h n e
+term_belongs a ts i term h n e = all_there (λ (u : Term). BelongsTo a u.by) ts i term h n e

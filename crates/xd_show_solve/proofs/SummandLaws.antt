@@ -2,6 +2,7 @@
 use Rattle.std.proofs.Common.{◌≡◌, refl, sym, ap, ◌∙◌, subst, List, [], ◌∷◌, ◌++◌, Option, Some, None}
 use Rattle.std.specs.List.{AllByRecursion}
 use Rattle.std.specs.Option.{IfSome}
+use Rattle.xd_doc.proofs.Lists.{all_push, all_more}
 use Rattle.xd_syntax.specs.Tree.{Tree, Alt, Seq}
 use Rattle.xd_syntax.specs.TreeForms.{alt_of}
 use Rattle.xd_syntax.specs.Table.{Row}
@@ -15,7 +16,7 @@ use Rattle.xd_show_solve.specs.declared.sums.Term.{Term}
 use Rattle.xd_show_solve.specs.declared.sums.Sum.{Sum}
 use Rattle.xd_show_solve.specs.declared.summands.Summands.{Summands}
 use Rattle.xd_same_types.proofs.AltLaws.{alt_push}
-use Rattle.xd_same_types.proofs.Facts.{all_map, all_push, iff_then, or_same}
+use Rattle.xd_same_types.proofs.Facts.{iff_then, or_same}
 use Rattle.xd_same_types.proofs.Laws.{same_at, same_of, same_then, seq_same}
 use Rattle.xd_same_types.proofs.Tables.{kept_belongs, kept_tree, kept_trees, trees_append}
 use Rattle.xd_show_solve.proofs.SideLaws.{a_side, constant_first, constant_more, multiple_constant, product_pushed}
@@ -35,7 +36,7 @@ pub summands_stay : (a b : List Row) → GrowsTypes a b → (s : Summands) → S
 summands_stay a b k s h = record {
   terms = terms_kept a b k s.terms.items h.terms;
   first = constant_stays a b k s.first h.first;
-  more = all_map (BelongsTo a) (BelongsTo b) s.more.items (λ x. kept_belongs a b k x) h.more;
+  more = all_more (BelongsTo a) (BelongsTo b) s.more.items (λ x. kept_belongs a b k x) h.more;
 }
 
 pub term_adds : (a : List Row) (s : Summands) (t : Summands) (term : Term) → t.terms.items ≡ s.terms.items ++ term ∷ [] → t.first ≡ s.first → t.more.items ≡ s.more.items → AddsProduct (summands_in a s) (product_in a term) (summands_in a t)

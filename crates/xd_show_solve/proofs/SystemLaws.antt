@@ -2,6 +2,8 @@
 use Rattle.std.proofs.Common.{◌≡◌, ◌⊎◌, ◌↔◌, inl, inr, ℕ, zero, suc, ◌+◌, ◌<◌, ◌≤◌, nat_eq, Bool, true, false, not, ◌&&◌, refl, sym, ap, ◌∙◌, subst, List, [], ◌∷◌, length, get_or, set, arith}
 use Rattle.std.specs.List.{AllByRecursion}
 use Rattle.xd_doc.specs.Document.{Document}
+use Rattle.xd_doc.proofs.Lists.{all_more}
+use Rattle.xd_doc.proofs.Numbers.{less_cases}
 use Rattle.xd_syntax.specs.Table.{Row}
 use Rattle.xd_same_types.specs.Grown.{GrowsTypes}
 use Rattle.xd_same_types.specs.Same.{Meaning}
@@ -12,11 +14,10 @@ use Rattle.xd_show_solve.specs.declared.sums.Sum.{Sum}
 use Rattle.xd_same_types.proofs.Ids.{got}
 use Rattle.std.proofs.lemmas.Bool.Decides.{nat_tests}
 use Rattle.xd_show_solve.proofs.SolveLaws.{fine_other}
-use Rattle.xd_same_types.proofs.Facts.{none_or, or_same, iff_then, iff_back, all_map}
+use Rattle.xd_same_types.proofs.Facts.{none_or, or_same, iff_then, iff_back}
 use Rattle.xd_show_solve.proofs.SumSteps.{products, side_kept, stands_kept}
-
-iff_refl : (A : Type 0) → A ↔ A
-iff_refl A = (λ a. a, λ a. a)
+use Rattle.xd_show_solve.proofs.ReduceLaws.{all_stand_kept}
+use Rattle.xd_show_solve.proofs.SideLaws.{iff_refl}
 
 -- a side without the unknown stays as it is
 fine_products : (allowed : ℕ → Bool) (ranks : List ℕ) (bound i : ℕ) (a : List Row) (ts : List Term) → AllByRecursion (λ (t : Term). nat_eq t.to i ≡ false) ts →
@@ -107,14 +108,6 @@ replaces_first_none a m gone own sums = record {
   left = λ i s l. refl;
 }
 
-less_cases : (i n : ℕ) → i < n + 1 → (i < n) ⊎ (i ≡ n)
-less_cases i zero l = inr (omega arith)
-less_cases zero (suc n) l = inl (omega arith)
-less_cases (suc i) (suc n) l = let m : i < n + 1 = omega arith in elim (less_cases i n m) [
-  | inl k ↦ inl (omega arith)
-  | inr e ↦ inr (ap suc e)
-]
-
 -- one more
 pub replaces_first_more : (a m b : List Row) → GrowsTypes a m → GrowsTypes m b → (gone : ℕ) (own : Sum) → SumStands m own → (n : ℕ) (sums now new : List Sum) → AllStand a sums → AllStand m now →
     ReplacesFirst a m gone own n sums now → ReplacesAt m b gone own n now new → n < length sums → ReplacesFirst a b gone own (n + 1) sums new
@@ -171,7 +164,7 @@ alive_was alive gone j l h =
 
 fine_alive : (alive : List Bool) (gone bound : ℕ) (ranks : List ℕ) (ps : List Product) → AllByRecursion (IsFine (allowed_but (is_alive alive) gone) ranks bound) ps → AllByRecursion (IsFine (is_alive (set alive gone false)) ranks bound) ps
 fine_alive alive gone bound ranks ps h =
-    all_map (IsFine (allowed_but (is_alive alive) gone) ranks bound) (IsFine (is_alive (set alive gone false)) ranks bound) ps
+    all_more (IsFine (allowed_but (is_alive alive) gone) ranks bound) (IsFine (is_alive (set alive gone false)) ranks bound) ps
     (λ p f. record { use_allowed = alive_stays alive gone p.to f.use_allowed; guarded = f.guarded }) h
 
 -- an unknown is taken out
@@ -211,13 +204,6 @@ takes_out a m b mb gone own alive sums now s l c g e solved st n whole f = recor
 
     replaced_at : (i : ℕ) (t : Sum) → i < length sums → t ≡ get_or now i t → IsReplaced gone (side_in b own) (side_in a (old_at i t)) (side_in b t)
     replaced_at i t j q = let k : i < n = omega arith in f.done i (old_at i t) t k j (old_is i t j) q
-
-all_stand_kept : (a b : List Row) → GrowsTypes a b → (ss : List Sum) → AllStand a ss → AllStand b ss
-all_stand_kept a b k [] h = tt
-all_stand_kept a b k (s ∷ ss) h = (stands_kept a b k s h.0, all_stand_kept a b k ss h.1)
-
-pub stand_kept : (a b : List Row) → GrowsTypes a b → (ss : List Sum) → AllStand a ss → AllStand b ss
-stand_kept a b k ss h = all_stand_kept a b k ss h
 
 -- how many unknowns are alive
 abbrev pub living : List Bool → ℕ

@@ -1,8 +1,11 @@
 -- Laws of moves on texts as products.
 use Rattle.std.proofs.Common.{◌≡◌, ◌⊎◌, ◌↔◌, inl, inr, ℕ, Bool, true, false, ◌||◌, refl, sym, ap, subst, List, [], ◌∷◌, ◌++◌, Some}
 use Rattle.std.specs.List.{list_any}
+use Rattle.std.proofs.lemmas.Bool.{and_from}
 use Rattle.xd_doc.specs.Document.{Document, empty, text, element, join, has_item}
 use Rattle.xd_doc.specs.Classes.{class_has}
+use Rattle.xd_doc.proofs.Bools.{and_parts}
+use Rattle.xd_doc.proofs.Lists.{all_push}
 use Rattle.xd_auto.specs.declared.auto.TextMove.{TextMove}
 use Rattle.xd_auto.specs.Automaton.{Automaton, accepts, takes_word}
 use Rattle.xd_syntax.specs.Tree.{Tree}
@@ -10,11 +13,9 @@ use Rattle.xd_same_types.specs.Same.{Meaning, TakesItem, IsTextOf, IsTextsType}
 use Rattle.xd_same_types.specs.Same.{HasTops}
 use Rattle.xd_show_solve.specs.Equations.{Product, Unknowns, ProductTakes}
 use Rattle.xd_show_solve.specs.Levels.{TextsTake, HasPlace, known_of, IsTextProduct, AreTextProducts}
-use Rattle.xd_show_solve.proofs.LevelLaws.{and_both, both_and}
 use Rattle.xd_show_solve.proofs.SideLaws.{a_product}
 use Rattle.xd_same_types.proofs.Facts.{iff_then, iff_back, or_same}
 use Rattle.xd_show_solve.proofs.SumLaws.{some_append}
-use Rattle.xd_same_types.proofs.Tables.{all_with}
 
 text_item : (h : List ℕ → Bool) (d : Document) → IsTextOf h d → has_item d ≡ true
 text_item h empty f = absurd f
@@ -27,7 +28,7 @@ text_out a X i m g empty v d e f x = absurd f
 text_out a X i m g (element l w r) v d e f x = absurd f
 text_out a X i m g (text s r) v d e f x =
     let rest : join r v ≡ v = ap (λ z. join z v) f.0 in
-    let all = both_and (class_has m.words s) (accepts a v m.rest) f.1 ((g v).0 x) in
+    let all = and_from (class_has m.words s) (accepts a v m.rest) f.1 ((g v).0 x) in
     subst (TextsTake a (m ∷ [])) e (subst (λ z. TextsTake a (m ∷ []) (text s z)) (sym rest) (or_one (takes_word a s v m) all))
   where
     or_one : (b : Bool) → b ≡ true → (b || false) ≡ true
@@ -39,7 +40,7 @@ text_in a N X T i m t g empty f = absurd f
 text_in a N X T i m t g (element l w r) f = absurd f
 text_in a N X T i m t g (text s r) f =
     let one = one_or (takes_word a s r m) f in
-    let p = and_both (class_has m.words s) (accepts a r m.rest) one in
+    let p = and_parts (class_has m.words s) (accepts a r m.rest) one in
     (text s empty, r, refl, (t.fits N (text s empty)).1 (refl, p.0), (g r).1 p.1)
   where
     one_or : (b : Bool) → (b || false) ≡ true → b ≡ true
@@ -99,7 +100,7 @@ pub text_products_more : (a : Automaton) (places : _) (ms : List TextMove) (ps :
     AreTextProducts a places ms ps → IsTextProduct a places m p → AreTextProducts a places (ms ++ m ∷ []) (ps ++ p ∷ [])
 text_products_more a places ms ps m p h g = record {
   takes = λ N X q d. iff_then (some_append N X d ps (p ∷ [])) (iff_then (or_same (h.takes N X q d) (g.takes N X q d)) (iff_back (texts_append a ms m d)));
-  items = all_with (λ (r : Product). TakesItem r.by) ps p h.items g.item;
-  placed = all_with (λ (r : Product). HasPlace places r.to) ps p h.placed g.place;
-  tops = λ known. all_with (λ (r : Product). HasTops known r.by) ps p (h.tops known) (g.tops known);
+  items = all_push (λ (r : Product). TakesItem r.by) ps p h.items g.item;
+  placed = all_push (λ (r : Product). HasPlace places r.to) ps p h.placed g.place;
+  tops = λ known. all_push (λ (r : Product). HasTops known r.by) ps p (h.tops known) (g.tops known);
 }

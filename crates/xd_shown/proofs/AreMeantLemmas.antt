@@ -4,6 +4,7 @@ use Rattle.std.specs.List.{AllByRecursion}
 use Rattle.std.specs.Str.{bytes_eq}
 use Rattle.std.proofs.lemmas.Slice.Eq.{bytes_eq-Decides}
 use Rattle.xd_doc.specs.Document.{Document, empty, text, element, is_proper}
+use Rattle.xd_doc.proofs.Bools.{or_second}
 use Rattle.xd_syntax.specs.Words.{any_word, has_word}
 use Rattle.xd_syntax.specs.Tree.{Tree, Name, Definitions, environment, uses_only}
 use Rattle.xd_syntax.specs.Table.{Row}
@@ -18,7 +19,7 @@ use Rattle.xd_same_types.specs.Same.{Meaning, FitsAs, tops_only}
 use Rattle.xd_shown.specs.Bodies.{AreBodies, AreMeant, ShowsMeanings, defining}
 use Rattle.xd_shown.specs.FreeNames.{AreNewNames}
 use Rattle.xd_shown.specs.Shown.{AreNamedFrom, IsShown, none_type}
-use Rattle.xd_shown.proofs.DefiningLemmas.{or_right, pairs, pairs_are, names_are, firsts_are, each_pair, bodies_use}
+use Rattle.xd_shown.proofs.DefiningLemmas.{pairs, pairs_are, names_are, firsts_are, each_pair, bodies_use}
 use Rattle.xd_shown.proofs.Meanings.{IsMeant, fits_meaning}
 use Rattle.xd_syntax.proofs.Words.{bytes_eq-turned}
 use Rattle.xd_shown.proofs.Soundness.{sound, under_labels}
@@ -71,7 +72,7 @@ all_own front (w ∷ words) = (there front, subst (λ ws. AllByRecursion (λ v. 
   where
     there : (front : List (List ℕ)) → has_word (front ++ w ∷ words) w ≡ true
     there [] = ap (λ b. b || has_word words w) ((bytes_eq-Decides w w).1 refl)
-    there (v ∷ front) = or_right (bytes_eq v w) (there front)
+    there (v ∷ front) = or_second (bytes_eq v w) (there front)
 
 module _ (types : List Row) (words : List (List ℕ)) (bodies : List TypeId) (table : IsTable false types) (n : AreNewNames words) (b : AreBodies types words bodies) where
   abbrev pub P : ProgramTree
@@ -121,7 +122,7 @@ none_bodies types made w id e t b n =
 
 -- the name is among those that the table may use
 pub own_known : (w : List ℕ) → has_word (any_word ∷ (w ∷ [])) w ≡ true
-own_known w = or_right (bytes_eq any_word w) (ap (λ b. b || false) ((bytes_eq-Decides w w).1 refl))
+own_known w = or_second (bytes_eq any_word w) (ap (λ b. b || false) ((bytes_eq-Decides w w).1 refl))
 
 module _ (types : List Row) (w : List ℕ) (id : TypeId) (table : IsTable false types) (n : AreNewNames (w ∷ [])) (b : AreBodies types (w ∷ []) (id ∷ [])) (t : tree types id ≡ none_type w) where
   -- `Any` is every document, and each other name none

@@ -1,11 +1,9 @@
 -- The program that defines names by types of a table.
-use Rattle.std.proofs.Common.{◌≡◌, ℕ, suc, zero, ◌<◌, Bool, true, false, not, ◌&&◌, ◌||◌, List, [], ◌∷◌, ◌++◌, map, length, take, get_or, refl, ap, sym, ◌∙◌, subst, arith}
+use Rattle.std.proofs.Common.{◌≡◌, ℕ, suc, zero, ◌<◌, Bool, true, false, not, ◌&&◌, List, [], ◌∷◌, ◌++◌, map, length, take, get_or, refl, ap, sym, ◌∙◌, subst, arith}
 use Rattle.std.specs.List.{AllByRecursion}
-use Rattle.std.proofs.lemmas.Bool.{and_from}
 use Rattle.xd_syntax.specs.Words.{has_word}
 use Rattle.xd_syntax.specs.Keywords.{keywords, is_type_name}
-use Rattle.xd_syntax.specs.Tree.{Tree, Definitions, seq_of, uses_only}
-use Rattle.xd_syntax.specs.TreeForms.{alt_of}
+use Rattle.xd_syntax.specs.Tree.{Tree, Definitions, uses_only}
 use Rattle.xd_syntax.specs.Table.{Row, Form, empty_form, text_form, words_form, name_form, elem_form, seq_form, alt_form, star_form, plus_form, opt_form, val_form, form_tree, tree_at, AreBuilt}
 use Rattle.xd_syntax.specs.Types.{BelongsTo, tree}
 use Rattle.xd_syntax.specs.Placed.{unplaced}
@@ -19,14 +17,11 @@ use Rattle.xd_syntax.specs.declared.types.TypeId.{TypeId}
 use Rattle.xd_syntax.proofs.NodeParts.{form_parts_below}
 use Rattle.xd_syntax.proofs.PlacedTrees.{unplaced_at}
 use Rattle.xd_syntax.proofs.Trees.{tree_is, parts_at}
+use Rattle.xd_sound.proofs.Reached.{known_seq, known_alt}
 use Rattle.xd_type_laws.specs.DefinitionsText.{type_definitions}
 use Rattle.xd_same_types.specs.Grown.{form_named, NamesAmong}
 use Rattle.xd_shown.specs.Bodies.{definitions_of, defining}
 use Rattle.xd_shown.specs.Shown.{defined_names}
-
-pub or_right : (a : Bool) {b : Bool} → b ≡ true → (a || b) ≡ true
-or_right true e = refl
-or_right false e = e
 
 -- names with their types
 abbrev pub pairs : List Row → List (List ℕ) → List TypeId → Definitions
@@ -97,25 +92,14 @@ definitions_push words bodies k m w b l e s n i = step words bodies k l e n i �
     step (v ∷ words) (c ∷ bodies) (suc k) l e n i =
         ap (λ ds. let d : TypeDef = record { name = v; place = the_start; body = c } in d ∷ ds) (step words bodies k (omega arith) (omega arith) n i)
 
--- ---- the types use these names alone
-seq_uses : (known : List (List ℕ)) (t : ℕ → Tree) (is : List ℕ) → AllByRecursion (λ i. uses_only known (t i) ≡ true) is → uses_only known (seq_of (map t is)) ≡ true
-seq_uses known t [] a = refl
-seq_uses known t (i ∷ []) a = a.0
-seq_uses known t (i ∷ (j ∷ js)) a = and_from (uses_only known (t i)) (uses_only known (seq_of (map t (j ∷ js)))) a.0 (seq_uses known t (j ∷ js) a.1)
-
-alt_uses : (known : List (List ℕ)) (t : ℕ → Tree) (is : List ℕ) → AllByRecursion (λ i. uses_only known (t i) ≡ true) is → uses_only known (alt_of (map t is)) ≡ true
-alt_uses known t [] a = refl
-alt_uses known t (i ∷ []) a = a.0
-alt_uses known t (i ∷ (j ∷ js)) a = and_from (uses_only known (t i)) (uses_only known (alt_of (map t (j ∷ js)))) a.0 (alt_uses known t (j ∷ js) a.1)
-
 form_uses : (known : List (List ℕ)) (t : ℕ → Tree) (f : Form) → form_named known f ≡ true → AllByRecursion (λ i. uses_only known (t i) ≡ true) (form_parts f) → uses_only known (form_tree t f) ≡ true
 form_uses known t empty_form n a = refl
 form_uses known t text_form n a = refl
 form_uses known t (words_form w) n a = refl
 form_uses known t (name_form w) n a = n
 form_uses known t (elem_form c i) n a = a.0
-form_uses known t (seq_form is) n a = seq_uses known t is a
-form_uses known t (alt_form is) n a = alt_uses known t is a
+form_uses known t (seq_form is) n a = known_seq known t is a
+form_uses known t (alt_form is) n a = known_alt known t is a
 form_uses known t (star_form i) n a = a.0
 form_uses known t (plus_form i) n a = a.0
 form_uses known t (opt_form i) n a = a.0

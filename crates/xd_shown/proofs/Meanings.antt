@@ -5,6 +5,7 @@ use Rattle.std.specs.Str.{bytes_eq}
 use Rattle.std.proofs.lemmas.Bool.{and_parts, and_from}
 use Rattle.std.proofs.lemmas.Slice.Eq.{bytes_eq-Decides}
 use Rattle.xd_doc.specs.Document.{Document, empty, text, element}
+use Rattle.xd_doc.proofs.Bools.{or_second}
 use Rattle.xd_syntax.specs.Words.{any_word, has_word}
 use Rattle.xd_syntax.specs.Tree.{Tree, Empty, Text, Words, Name, Elem, Seq, Alt, Star, Plus, Opt, Val, Definitions, body, any_type, environment, uses_only}
 use Rattle.xd_syntax.specs.Fits.{Fits}
@@ -12,7 +13,6 @@ use Rattle.xd_meaning.specs.FitsWithin.{Repeats, no_turn, one_turn}
 use Rattle.xd_same_types.specs.Names.{IsMeaning, AreGuarded, AreClosed}
 use Rattle.xd_same_types.specs.Same.{Meaning, FitsAs, tops_only}
 use Rattle.xd_same_types.proofs.IsMeaningLemmas.{names_settle}
-use Rattle.xd_shown.proofs.DefiningLemmas.{or_right}
 
 -- ---- every document is one of `Any`
 any_fits : (N : Meaning) → ((d : Document) → N any_word d ≡ true) → (d : Document) → FitsAs N any_type d
@@ -119,5 +119,5 @@ fits_meaning N ds any meant guarded x h d =
     let m : IsMeaning E M = is_meaning N E (any_meant N (firsts ds) any, meant) in
     let g : AreGuarded E (any_word ∷ []) = λ y T e. at_body (λ p. tops_only (any_word ∷ []) p.1 ≡ true) E (refl, guarded) y T e in
     let s = names_settle E M (any_word ∷ []) m g (closed ds) (Name x) d in
-    let k : has_word (firsts E) x ≡ true = or_right (bytes_eq any_word x) h in
+    let k : has_word (firsts E) x ≡ true = or_second (bytes_eq any_word x) h in
     (λ f. (and_parts (has_word (firsts E) x) (N x d) (s.0 f)).1, λ e. s.1 (and_from (has_word (firsts E) x) (N x d) k e))

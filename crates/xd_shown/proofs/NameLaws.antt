@@ -6,6 +6,7 @@ use Rattle.std.proofs.lemmas.Bool.Decides.{nat_tests}
 use Rattle.std.proofs.lemmas.Fmt.{decimal_by_steps, decimal_injective}
 use Rattle.std.proofs.lemmas.Slice.Eq.{bytes_eq-Decides}
 use Rattle.xd_doc.specs.Word.{is_word_start, is_word_part, are_word_parts, is_word}
+use Rattle.xd_doc.proofs.Bools.{or_true}
 use Rattle.xd_syntax.specs.Words.{any_word}
 use Rattle.xd_syntax.specs.Keywords.{is_type_name}
 use Rattle.xd_shown.specs.Shown.{shown_name}
@@ -19,10 +20,6 @@ begins_low (c ∷ cs) = nat_lt c 58
 record AreDigits (ds : List ℕ) : Type 0 where
   parts : are_word_parts ds ≡ true
   low : begins_low ds ≡ true
-
-or_true : (b : Bool) → (b || true) ≡ true
-or_true true = refl
-or_true false = refl
 
 digit_part : (m : ℕ) → m < 10 → is_word_part (48 + m) ≡ true
 digit_part m h =

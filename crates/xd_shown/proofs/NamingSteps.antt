@@ -7,6 +7,7 @@ use Rattle.std.specs.Cmp.Lexicographic.{slice_cmp}
 use Rattle.std.specs.Str.{bytes_eq}
 use Rattle.std.proofs.lemmas.Bool.{or_from}
 use Rattle.std.proofs.lemmas.Map.Text.{is_eq-slice_cmp}
+use Rattle.xd_doc.proofs.SortedNames.{or_false}
 use Rattle.xd_syntax.specs.Words.{any_word, has_word}
 use Rattle.xd_syntax.specs.Keywords.{is_type_name}
 use Rattle.xd_shown.specs.FreeNames.{AreDistinct, AreNewNames}
@@ -59,10 +60,6 @@ or_moved true true r x e = e
 or_moved true false r x e = e
 or_moved false true r x e = e
 or_moved false false r x e = e
-
-or_false : (b : Bool) → (b || false) ≡ b
-or_false true = refl
-or_false false = refl
 
 -- Of these words, those before the place were added.
 pub record AreAdded (words : List (List ℕ)) (place : ℕ) (keys : List (List ℕ)) : Type 0 where

@@ -4,6 +4,8 @@ use Rattle.std.specs.List.{AllByRecursion}
 use Rattle.std.specs.Str.{bytes_eq}
 use Rattle.std.proofs.lemmas.Bool.{and_parts, or_parts, or_from}
 use Rattle.std.proofs.lemmas.Slice.Eq.{bytes_eq-Decides}
+use Rattle.xd_doc.proofs.Lists.{word_equals}
+use Rattle.xd_doc.proofs.Bools.{or_second}
 use Rattle.xd_syntax.specs.Words.{any_word, string_word, has_word}
 use Rattle.xd_syntax.specs.Keywords.{keywords, is_type_name}
 use Rattle.xd_syntax.specs.Tree.{uses_only}
@@ -24,7 +26,7 @@ use Rattle.xd_same_types.specs.Same.{tops_only}
 use Rattle.xd_shown.specs.Bodies.{AreBodies, definitions_of, defining}
 use Rattle.xd_shown.specs.FreeNames.{AreDistinct, AreNewNames}
 use Rattle.xd_shown.specs.Shown.{defined_names, UsesUnderLabels}
-use Rattle.xd_shown.proofs.DefiningLemmas.{or_right, names_are, each_definition, bodies_use}
+use Rattle.xd_shown.proofs.DefiningLemmas.{names_are, each_definition, bodies_use}
 
 -- ---- no name twice
 abbrev spots_of : List TypeDefinition → List Spot
@@ -109,9 +111,6 @@ record IsUseOf (ts : List TypeDefinition) (known : List (List ℕ)) (w : UseIn) 
   owned : has_word (map (λ (t : TypeDefinition). t.name) ts) w.owner ≡ true
   named : has_word known (w.use_there).name ≡ true
 
-same_word : (x y : List ℕ) → x ≡ y → bytes_eq x y ≡ true
-same_word x y e = (bytes_eq-Decides x y).1 e
-
 is_use : (known : List (List ℕ)) (ts : List TypeDefinition) → AllByRecursion (λ (t : TypeDefinition). tops_only known (unplaced t.body) ≡ true) ts →
     (w : UseIn) → Among w (all_top_uses ts) → IsUseOf ts known w
 is_use known [] a w m = absurd m
@@ -121,10 +120,10 @@ is_use known (t ∷ ts) a w m =
       | inl n ↦
           let r = mem_map here w (top_uses t.body) n in
           subst (IsUseOf (t ∷ ts) known) r.2 (record {
-            owned = ap (λ x. x || has_word (map (λ (t : TypeDefinition). t.name) ts) t.name) (same_word t.name t.name refl);
+            owned = ap (λ x. x || has_word (map (λ (t : TypeDefinition). t.name) ts) t.name) (word_equals t.name t.name refl);
             named = top_named known t.body r.0 a.0 r.1;
           })
-      | inr n ↦ let r = is_use known ts a.1 w n in record { owned = or_right (bytes_eq t.name w.owner) r.owned; named = r.named }
+      | inr n ↦ let r = is_use known ts a.1 w n in record { owned = or_second (bytes_eq t.name w.owner) r.owned; named = r.named }
     ]
 
 undefined : (ts : List TypeDefinition) (x : List ℕ) → has_word (map (λ (t : TypeDefinition). t.name) ts) x ≡ false → placed_body ts x ≡ None

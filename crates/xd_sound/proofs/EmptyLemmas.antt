@@ -4,9 +4,13 @@ use Rattle.std.proofs.Common.{◌||◌, ◌&&◌, map}
 use Rattle.std.specs.List.{AllByRecursion}
 use Rattle.std.specs.Str.{bytes_eq}
 use Rattle.std.proofs.lemmas.List.{length_push, length-set, get_or-set_same, get_or-set_other, get_or_past}
-use Rattle.std.proofs.lemmas.Bool.{cases_lt, cases_eq}
+use Rattle.std.proofs.lemmas.Bool.{cases_lt, cases_eq, and_from, or_left, or_right}
 use Rattle.std.proofs.lemmas.Slice.Eq.{bytes_eq-Decides}
-use Rattle.xd_doc.specs.Document.{Document, empty, text, element, join}
+use Rattle.xd_doc.specs.Document.{Document, empty}
+use Rattle.xd_doc.proofs.Bools.{and_parts, or_cases}
+use Rattle.xd_doc.proofs.Options.{some_same}
+use Rattle.xd_doc.proofs.Joins.{joined_none}
+use Rattle.xd_doc.proofs.Lists.{all_below}
 use Rattle.xd_syntax.specs.Words.{any_word}
 use Rattle.xd_syntax.specs.Tree.{Tree, Empty, Text, Words, Name, Elem, Seq, Alt, Star, Plus, Opt, Val, Definitions, body, any_type, seq_of}
 use Rattle.xd_syntax.specs.TreeForms.{alt_of}
@@ -26,34 +30,6 @@ use Rattle.xd_sound.specs.Emptiness.{is_marked, body_marked, name_marked, all_ma
 use Rattle.xd_syntax.specs.Nodes.{no_row, form_at}
 use Rattle.xd_sound.proofs.Graphs.{with_edge, edges_kept, edge_made}
 use Rattle.xd_sound.proofs.NameLemmas.{first_found, meaning_of, body_of}
-
-or_cases : (a b : Bool) → (a || b) ≡ true → (a ≡ true) ⊎ (b ≡ true)
-or_cases true b e = inl refl
-or_cases false b e = inr e
-
-or_right : (a b : Bool) → b ≡ true → (a || b) ≡ true
-or_right true b e = refl
-or_right false b e = e
-
-or_left : (a b : Bool) → a ≡ true → (a || b) ≡ true
-or_left a b e = rw e refl
-
-and_cases : (a b : Bool) → (a && b) ≡ true → (a ≡ true) × (b ≡ true)
-and_cases true b e = (refl, e)
-and_cases false b e = absurd (cc)
-
-and_both : (a b : Bool) → a ≡ true → b ≡ true → (a && b) ≡ true
-and_both a b e f = rw (e, f) refl
-
-pub same_tests : (a b : Bool) → (a ≡ true → b ≡ true) → (b ≡ true → a ≡ true) → a ≡ b
-same_tests true b f g = sym (f refl)
-same_tests false true f g = g refl
-same_tests false false f g = refl
-
-join_empty : (a b : Document) → join a b ≡ empty → (a ≡ empty) × (b ≡ empty)
-join_empty empty b e = (refl, e)
-join_empty (text s a) b e = cc
-join_empty (element l k a) b e = cc
 
 any_is : (w : List ℕ) → bytes_eq any_word w ≡ true → any_word ≡ w
 any_is w e = (bytes_eq-Decides any_word w).0 e
@@ -78,9 +54,9 @@ name_right types ds marks right w e = go (bytes_eq any_word w) refl e
 all_right : (E : Definitions) (t : ℕ → Tree) (marks : List Bool) → ((i : ℕ) → is_marked marks i ≡ true → Fits E (t i) empty) → (is : List ℕ) → all_marked marks is ≡ true →
     Fits E (seq_of (map t is)) empty
 all_right E t marks right [] e = F.fits_empty
-all_right E t marks right (i ∷ []) e = right i (and_cases (is_marked marks i) true e).0
+all_right E t marks right (i ∷ []) e = right i (and_parts (is_marked marks i) true e).0
 all_right E t marks right (i ∷ (j ∷ js)) e =
-    let r = and_cases (is_marked marks i) (all_marked marks (j ∷ js)) e in
+    let r = and_parts (is_marked marks i) (all_marked marks (j ∷ js)) e in
     F.fits_seq empty empty refl (right i r.0) (all_right E t marks right (j ∷ js) r.1)
 
 some_right : (E : Definitions) (t : ℕ → Tree) (marks : List Bool) → ((i : ℕ) → is_marked marks i ≡ true → Fits E (t i) empty) → (is : List ℕ) → some_marked marks is ≡ true →
@@ -263,7 +239,7 @@ tree_right types ds marks right (Words ws) e = absurd (cc)
 tree_right types ds marks right (Name x) e = name_right types ds marks right x e
 tree_right types ds marks right (Elem c T) e = absurd (cc)
 tree_right types ds marks right (Seq T U) e =
-    let r = and_cases (empty_by (name_marked marks ds) T) (empty_by (name_marked marks ds) U) e in
+    let r = and_parts (empty_by (name_marked marks ds) T) (empty_by (name_marked marks ds) U) e in
     F.fits_seq empty empty refl (tree_right types ds marks right T r.0) (tree_right types ds marks right U r.1)
 tree_right types ds marks right (Alt T U) e = elim (or_cases (empty_by (name_marked marks ds) T) (empty_by (name_marked marks ds) U) e) [
   | inl a ↦ F.fits_left (tree_right types ds marks right T a)
@@ -298,12 +274,12 @@ module _ (types : List Row) (ds : List TypeDef) (marks : List Bool) (right : Are
   found F.fits_text e = cc
   found (F.fits_words h) e = cc
   found (F.fits_elem c f) e = cc
-  found (F.fits_seq {T} {U} {d} a b q f g) e = let j = join_empty a b (q ∙ e) in and_both (empty_by B T) (empty_by B U) (found f j.0) (found g j.1)
+  found (F.fits_seq {T} {U} {d} a b q f g) e = let j = joined_none a b (q ∙ e) in and_from (empty_by B T) (empty_by B U) (found f j.0) (found g j.1)
   found (F.fits_left {T} {U} f) e = or_left (empty_by B T) (empty_by B U) (found f e)
   found (F.fits_right {T} {U} f) e = or_right (empty_by B T) (empty_by B U) (found f e)
   found F.fits_no_turn e = refl
   found (F.fits_turn a b q s f g) e = refl
-  found (F.fits_plus a b q f g) e = found f (join_empty a b (q ∙ e)).0
+  found (F.fits_plus a b q f g) e = found f (joined_none a b (q ∙ e)).0
   found F.fits_absent e = refl
   found (F.fits_present f) e = refl
   found (F.fits_name {x} {T} {d} q f) e = name_up x T q (found f e)
@@ -319,10 +295,10 @@ module _ (types : List Row) (ds : List TypeDef) (marks : List Bool) where
 
   all_up : (is : List ℕ) → ((i : ℕ) → Among i is → empty_by N (tree_at types i) ≡ true → is_marked marks i ≡ true) → empty_by N (seq_of (map (tree_at types) is)) ≡ true → all_marked marks is ≡ true
   all_up [] h e = refl
-  all_up (i ∷ []) h e = and_both (is_marked marks i) true (h i (inl refl) e) refl
+  all_up (i ∷ []) h e = and_from (is_marked marks i) true (h i (inl refl) e) refl
   all_up (i ∷ (j ∷ js)) h e =
-      let r = and_cases (empty_by N (tree_at types i)) (empty_by N (seq_of (map (tree_at types) (j ∷ js)))) e in
-      and_both (is_marked marks i) (all_marked marks (j ∷ js)) (h i (inl refl) r.0) (all_up (j ∷ js) (λ k a. h k (inr a)) r.1)
+      let r = and_parts (empty_by N (tree_at types i)) (empty_by N (seq_of (map (tree_at types) (j ∷ js)))) e in
+      and_from (is_marked marks i) (all_marked marks (j ∷ js)) (h i (inl refl) r.0) (all_up (j ∷ js) (λ k a. h k (inr a)) r.1)
 
   some_up : (is : List ℕ) → 1 ≤ length is → ((i : ℕ) → Among i is → empty_by N (tree_at types i) ≡ true → is_marked marks i ≡ true) → empty_by N (alt_of (map (tree_at types) is)) ≡ true → some_marked marks is ≡ true
   some_up [] l h e = absurd (omega arith)
@@ -445,37 +421,30 @@ popped {types = types} {ds = ds} {marks = marks} waiting i e before =
     let n = m.count in
     record { marking = m; is_node = l; has_mark = omega arith }
 
-all_below_up : (m n : ℕ) → m ≤ n → (is : List ℕ) → AllByRecursion (λ i. i < m) is → AllByRecursion (λ i. i < n) is
-all_below_up m n h [] a = tt
-all_below_up m n h (i ∷ is) a = let b = a.0 in (omega arith, all_below_up m n h is a.1)
-
 pub parts_up : (m n : ℕ) (f : Form) → PartsBelow m f → m ≤ n → PartsBelow n f
 parts_up m n empty_form p h = tt
 parts_up m n text_form p h = tt
 parts_up m n (words_form ws) p h = tt
 parts_up m n (name_form w) p h = tt
 parts_up m n (elem_form c i) p h = omega arith
-parts_up m n (seq_form is) p h = all_below_up m n h is p
-parts_up m n (alt_form is) p h = all_below_up m n h is p
+parts_up m n (seq_form is) p h = all_below m n h is p
+parts_up m n (alt_form is) p h = all_below m n h is p
 parts_up m n (star_form i) p h = omega arith
 parts_up m n (plus_form i) p h = omega arith
 parts_up m n (opt_form i) p h = omega arith
 parts_up m n (val_form x q i) p h = omega arith
-
-some_inj : {A : Type 0} (x y : A) → Some x ≡ Some y → x ≡ y
-some_inj x y e = cc
 
 pub body_in : (n : ℕ) (ds : List TypeDef) (w : List ℕ) (b : ℕ) → AllByRecursion (λ (d : TypeDef). d.body.at < n) ds → Some b ≡ body_at (definition_of ds w) → b < n
 body_in n [] w b a e = absurd (cc)
 body_in n (d ∷ ds) w b a e = go (bytes_eq d.name w) e (λ k. body_in n ds w b a.1 k)
   where
     go : (t : Bool) → Some b ≡ body_at (cond t (Some d) (definition_of ds w)) → (Some b ≡ body_at (definition_of ds w) → b < n) → b < n
-    go true k rec = let q = some_inj b d.body.at k in let z = a.0 in omega arith
+    go true k rec = let q = some_same b d.body.at k in let z = a.0 in omega arith
     go false k rec = rec k
 
 pub number_some : (o : Option TypeDef) (b : ℕ) → Some b ≡ body_at o → body_number o ≡ b ∷ []
 number_some None b e = absurd (cc)
-number_some (Some d) b e = ap (λ n. n ∷ []) (sym (some_inj b d.body.at e))
+number_some (Some d) b e = ap (λ n. n ∷ []) (sym (some_same b d.body.at e))
 
 pub number_none : (o : Option TypeDef) → None ≡ body_at o → body_number o ≡ []
 number_none None e = refl
@@ -483,7 +452,7 @@ number_none (Some d) e = absurd (cc)
 
 pub marked_some : (marks : List Bool) (o : Option TypeDef) (b : ℕ) → Some b ≡ body_at o → is_marked marks b ≡ body_marked marks o
 marked_some marks None b e = absurd (cc)
-marked_some marks (Some d) b e = ap (is_marked marks) (some_inj b d.body.at e)
+marked_some marks (Some d) b e = ap (is_marked marks) (some_same b d.body.at e)
 
 pub marked_none : (marks : List Bool) (o : Option TypeDef) → None ≡ body_at o → false ≡ body_marked marks o
 marked_none marks None e = refl
@@ -496,7 +465,7 @@ pub record IsListed (marks : List Bool) (waiting : List ℕ) (n : ℕ) : Type 0 
   pub all : (i : ℕ) → i < n → Among i waiting
   pub within : (i : ℕ) → Among i waiting → i < n
 
-unmarked_push : (marks : List Bool) → ((i : ℕ) → is_marked marks i ≡ false) → (i : ℕ) → is_marked (marks ++ false ∷ []) i ≡ false
+pub unmarked_push : (marks : List Bool) → ((i : ℕ) → is_marked marks i ≡ false) → (i : ℕ) → is_marked (marks ++ false ∷ []) i ≡ false
 unmarked_push [] h zero = refl
 unmarked_push [] h (suc i) = refl
 unmarked_push (b ∷ marks) h zero = h zero

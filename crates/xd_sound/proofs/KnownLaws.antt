@@ -5,6 +5,7 @@ use Rattle.std.specs.Option.{IfSome}
 use Rattle.std.proofs.lemmas.List.{length_push, get_or_append_left, get_or_push}
 use Rattle.std.proofs.lemmas.Bool.{cases_lt}
 use Rattle.xd_doc.specs.Document.{empty}
+use Rattle.xd_doc.proofs.Bools.{same_tests}
 use Rattle.xd_syntax.specs.Tree.{Tree, Definitions}
 use Rattle.xd_syntax.specs.Table.{Row, tree_at, KeepsRows}
 use Rattle.xd_syntax.specs.Fits.{Fits, empty_by}
@@ -18,7 +19,7 @@ use Rattle.xd_sound.specs.Known.{AreKnownSoFar, IsSoundAndKnown}
 use Rattle.xd_syntax.specs.declared.types.TypeDef.{TypeDef}
 use Rattle.xd_sound.specs.declared.known.KnownTypes.{KnownTypes}
 use Rattle.xd_syntax.proofs.Trees.{tree_kept}
-use Rattle.xd_sound.proofs.EmptyLemmas.{bodies_below, decides, form_decided, same_tests}
+use Rattle.xd_sound.proofs.EmptyLemmas.{bodies_below, decides, form_decided}
 
 -- one more mark
 pub so_far_more : (types : List Row) (ds : List TypeDef) (marks : List Bool) (b : Bool) → AreEmptySoFar types ds marks → length marks < length types → IsRead types (length marks) →

@@ -2,6 +2,7 @@
 use Rattle.std.proofs.Common.{◌≡◌, ℕ, suc, ◌+◌, ◌-◌, ◌<◌, ◌≤◌, arith, Bool, true, false, cond, List, [], ◌∷◌, map, length, get_or, drop, Option, Some, None, refl, ap, ◌∙◌}
 use Rattle.std.specs.Str.{bytes_eq}
 use Rattle.std.proofs.lemmas.List.{drop_more}
+use Rattle.xd_doc.proofs.Options.{some_same}
 use Rattle.xd_syntax.specs.Words.{any_word}
 use Rattle.xd_syntax.specs.Tree.{Tree, body, any_type}
 use Rattle.xd_syntax.specs.Table.{Row, tree_at}
@@ -19,9 +20,6 @@ pub record IsFirst (ds : List TypeDef) (n k : ℕ) (w : List ℕ) : Type 0 where
   pub low : n ≤ k
   pub high : k < n + length ds
   pub defined : (d : TypeDef) → definition_of ds w ≡ Some (get_or ds (k - n) d)
-
-some_same : {A : Type 0} (x y : A) → Some x ≡ Some y → x ≡ y
-some_same x y e = cc
 
 pub first_found : (n : ℕ) (ds : List TypeDef) (w : List ℕ) (k : ℕ) → first_from n ds w ≡ Some k → IsFirst ds n k w
 first_found n [] w k e = absurd (cc)

@@ -4,6 +4,7 @@ use Rattle.std.specs.Str.{bytes_eq}
 use Rattle.std.specs.List.{AllByRecursion}
 use Rattle.std.proofs.lemmas.Slice.Eq.{bytes_eq-Decides}
 use Rattle.xd_doc.specs.Word.{is_word}
+use Rattle.xd_doc.proofs.Bools.{or_true}
 use Rattle.xd_syntax.proofs.Words.{bytes_eq-turned}
 use Rattle.xd_syntax.specs.Words.{has_word, any_word, string_word}
 use Rattle.xd_syntax.specs.Keywords.{keywords, is_type_name}
@@ -29,10 +30,6 @@ not_named types (d ∷ ds) w e = go (bytes_eq d.name w) e (λ k. not_named types
 pub undefined_word : (types : List Row) (ds : List TypeDef) (w : List ℕ) → bytes_eq w any_word ≡ false → definition_of ds w ≡ None →
     false ≡ (bytes_eq any_word w || has_word (names_in types ds) w)
 undefined_word types ds w h e = let a = bytes_eq-turned w any_word h in let b = not_named types ds w e in rw (a, b) refl
-
-or_true : (b : Bool) → (b || true) ≡ true
-or_true true = refl
-or_true false = refl
 
 has_named : (types : List Row) (ds : List TypeDef) (w : List ℕ) (d : TypeDef) → definition_of ds w ≡ Some d → has_word (names_in types ds) w ≡ true
 has_named types [] w d e = cc

@@ -1,5 +1,5 @@
 -- The nodes that a node reaches, and the walk that meets each of them once.
-use Rattle.std.proofs.Common.{◌≡◌, ℕ, zero, suc, ◌+◌, ◌<◌, ◌≤◌, ◌⊎◌, inl, inr, ⊎_elim, Bool, true, false, cond, max, List, [], ◌∷◌, ◌++◌, map, reverse, length, take, get_or, ◌-◌, refl, ap, sym, subst, ◌∙◌, arith, length-append}
+use Rattle.std.proofs.Common.{◌≡◌, ℕ, zero, suc, ◌+◌, ◌<◌, ◌≤◌, ◌⊎◌, inl, inr, ⊎_elim, Bool, true, cond, max, List, [], ◌∷◌, ◌++◌, map, reverse, length, take, get_or, ◌-◌, refl, ap, sym, subst, ◌∙◌, arith, length-append}
 use Rattle.std.specs.List.{AllByRecursion, Contains, sum_by, list_all}
 use Rattle.std.specs.List.Sorted.{IsPermutation}
 use Rattle.std.proofs.Math.Nat.{le-max_left, le-max_right}
@@ -9,6 +9,8 @@ use Rattle.std.proofs.lemmas.List.{get_or-reverse, length-reverse}
 use Rattle.std.proofs.lemmas.List.Sorted.{Contains-permutation, IsPermutation-reverse, IsPermutation-sym, sum_by_popped, sum_by-IsPermutation}
 use Rattle.std.proofs.lemmas.List.Sums.{sum_by-append, sum_by-cons}
 use Rattle.xd_doc.proofs.CopyLemmas.{none_contained, front_or_rest}
+use Rattle.xd_doc.proofs.Bools.{same_tests}
+use Rattle.xd_doc.proofs.Numbers.{itself as same_le, le_suc}
 use Rattle.xd_syntax.specs.Tree.{Tree, Empty, Text, Words, Name, Elem, Seq, Alt, Star, Plus, Opt, Val, seq_of, is_empty, uses_only}
 use Rattle.xd_syntax.specs.TreeForms.{alt_of, size}
 use Rattle.xd_syntax.specs.TypeText.{depth, depth_at_level, sequence_level, postfix_level, primary_level}
@@ -64,12 +66,12 @@ own_known known t (plus_form i) e = refl
 own_known known t (opt_form i) e = refl
 own_known known t (val_form x q i) e = refl
 
-known_seq : (known : List (List ℕ)) (t : ℕ → Tree) (is : List ℕ) → AllByRecursion (λ i. uses_only known (t i) ≡ true) is → uses_only known (seq_of (map t is)) ≡ true
+pub known_seq : (known : List (List ℕ)) (t : ℕ → Tree) (is : List ℕ) → AllByRecursion (λ i. uses_only known (t i) ≡ true) is → uses_only known (seq_of (map t is)) ≡ true
 known_seq known t [] a = refl
 known_seq known t (i ∷ []) a = a.0
 known_seq known t (i ∷ (j ∷ js)) a = and_from (uses_only known (t i)) (uses_only known (seq_of (map t (j ∷ js)))) a.0 (known_seq known t (j ∷ js) a.1)
 
-known_alt : (known : List (List ℕ)) (t : ℕ → Tree) (is : List ℕ) → AllByRecursion (λ i. uses_only known (t i) ≡ true) is → uses_only known (alt_of (map t is)) ≡ true
+pub known_alt : (known : List (List ℕ)) (t : ℕ → Tree) (is : List ℕ) → AllByRecursion (λ i. uses_only known (t i) ≡ true) is → uses_only known (alt_of (map t is)) ≡ true
 known_alt known t [] a = refl
 known_alt known t (i ∷ []) a = a.0
 known_alt known t (i ∷ (j ∷ js)) a = and_from (uses_only known (t i)) (uses_only known (alt_of (map t (j ∷ js)))) a.0 (known_alt known t (j ∷ js) a.1)
@@ -88,13 +90,6 @@ known_form known t (plus_form i) e a = a.0
 known_form known t (opt_form i) e a = a.0
 known_form known t (val_form x q i) e a = a.0
 
--- ---- depth: without parentheses a type is no deeper
-same_le : (n : ℕ) → n ≤ n
-same_le n = omega arith
-
-next_le : (n : ℕ) → n ≤ n + 1
-next_le n = omega arith
-
 pub any_below_sequence : (T : Tree) → depth T ≤ depth_at_level sequence_level T
 any_below_sequence Empty = omega arith
 any_below_sequence Text = omega arith
@@ -102,7 +97,7 @@ any_below_sequence (Words w) = omega arith
 any_below_sequence (Name x) = omega arith
 any_below_sequence (Elem c T) = same_le _
 any_below_sequence (Seq T U) = same_le _
-any_below_sequence (Alt T U) = next_le _
+any_below_sequence (Alt T U) = le_suc _
 any_below_sequence (Star T) = same_le _
 any_below_sequence (Plus T) = same_le _
 any_below_sequence (Opt T) = same_le _
@@ -114,7 +109,7 @@ sequence_below_postfix Text = omega arith
 sequence_below_postfix (Words w) = omega arith
 sequence_below_postfix (Name x) = omega arith
 sequence_below_postfix (Elem c T) = same_le _
-sequence_below_postfix (Seq T U) = next_le _
+sequence_below_postfix (Seq T U) = le_suc _
 sequence_below_postfix (Alt T U) = same_le _
 sequence_below_postfix (Star T) = same_le _
 sequence_below_postfix (Plus T) = same_le _
@@ -129,9 +124,9 @@ postfix_below_primary (Name x) = omega arith
 postfix_below_primary (Elem c T) = same_le _
 postfix_below_primary (Seq T U) = same_le _
 postfix_below_primary (Alt T U) = same_le _
-postfix_below_primary (Star T) = next_le _
-postfix_below_primary (Plus T) = next_le _
-postfix_below_primary (Opt T) = next_le _
+postfix_below_primary (Star T) = le_suc _
+postfix_below_primary (Plus T) = le_suc _
+postfix_below_primary (Opt T) = le_suc _
 postfix_below_primary (Val x T) = postfix_below_primary T
 
 any_below_primary : (T : Tree) → depth T ≤ depth_at_level primary_level T
@@ -293,12 +288,6 @@ all_each p (i ∷ is) e = let b = and_parts (p i) (list_all p is) e in (b.0, all
 each_all : (p : ℕ → Bool) (is : List ℕ) → AllByRecursion (λ i. p i ≡ true) is → list_all p is ≡ true
 each_all p [] a = refl
 each_all p (i ∷ is) a = and_from (p i) (list_all p is) a.0 (each_all p is a.1)
-
-same_tests : (x y : Bool) → (x ≡ true → y ≡ true) → (y ≡ true → x ≡ true) → x ≡ y
-same_tests true true f g = refl
-same_tests true false f g = sym (f refl)
-same_tests false true f g = g refl
-same_tests false false f g = refl
 
 known_up : (b : Bool) (rows : List Row) (from : ℕ) → AreBuilt b rows → from < length rows → (known : List (List ℕ)) →
     ((i : ℕ) → Reaches rows from i → form_known known (form_at rows i) ≡ true) → (n i : ℕ) → i < n → Reaches rows from i → uses_only known (tree_at rows i) ≡ true

@@ -2,11 +2,12 @@
 use Rattle.std.proofs.Common.{◌≡◌, suc, Bool, true, false, not, ◌&&◌, List, [], ◌∷◌, length, refl, sym, ap, ◌∙◌}
 use Rattle.std.specs.List.{list_any}
 use Rattle.std.proofs.lemmas.Bool.{and_parts, and_from}
+use Rattle.std.proofs.lemmas.Map.Keys.{any_passes_from_place}
 use Rattle.xd_doc.specs.Document.{Document, empty, text, element, join, has_item, is_proper}
 use Rattle.xd_read.specs.Grammar.{Terminal}
 use Rattle.xd_auto.specs.declared.auto.State.{State}
 use Rattle.xd_auto.specs.Automaton.{Automaton, accepts, moves_at}
-use Rattle.xd_auto.proofs.Anys.{Found, found, any_at}
+use Rattle.xd_auto.proofs.Anys.{Found, found}
 use Rattle.xd_empty.specs.Parts.{AreMarks, HasDocument, is_marked}
 use Rattle.xd_stream.specs.Pairs.{same_state}
 use Rattle.xd_stream.specs.StopByState.{BeginsAccepted}
@@ -36,7 +37,7 @@ has_rests a marks (ws ∷ wss) c m w h =
       rests = d.document ∷ more.rests;
       count = ap suc more.count;
       proper = (d.proper, more.proper);
-      finish = any_at (λ v. same_state v.content c && (accepts a d.document v.rest && finishes a wss v.first more.rests)) ws f.place f.item f.there
+      finish = any_passes_from_place (λ v. same_state v.content c && (accepts a d.document v.rest && finishes a wss v.first more.rests)) ws f.place f.item f.there
           (and_from (same_state f.item.content c) _ f.passes (and_from (accepts a d.document f.item.rest) _ d.accepted more.finish));
     }
 
@@ -77,7 +78,7 @@ module _ (a : Automaton) (s : State) (marks items : List Bool) (e : Position) (n
         within = record {
           proper = k.proper l.left r.rests l.proper r.proper;
           accepted = k.accepted l.left r.rests count
-              ∙ any_at (completes_by a wss l.left r.rests) now f.place p f.there (and_from (accepts a l.left p.present) _ l.accepted r.finish);
+              ∙ any_passes_from_place (completes_by a wss l.left r.rests) now f.place p f.there (and_from (accepts a l.left p.present) _ l.accepted r.finish);
         };
       }
 
@@ -88,7 +89,7 @@ module _ (a : Automaton) (s : State) (marks items : List Bool) (e : Position) (n
       let some : list_any (completes_by a wss c.0 r.rests) now ≡ true = sym (k.accepted c.0 r.rests r.count) ∙ ap (λ d. accepts a d s) r.is ∙ b.within.accepted in
       let f : Found (completes_by a wss c.0 r.rests) now = found (completes_by a wss c.0 r.rests) now some in
       let taken : accepts a c.0 f.item.present ≡ true = (and_parts (accepts a c.0 f.item.present) (finishes a wss f.item.first r.rests) f.passes).0 in
-      let alive : list_any (is_alive_at a items e) now ≡ true = any_at (is_alive_at a items e) now f.place f.item f.there (lives e f.item c.0 (left_may e c.0 b.more c.1 c.2) taken) in
+      let alive : list_any (is_alive_at a items e) now ≡ true = any_passes_from_place (is_alive_at a items e) now f.place f.item f.there (lives e f.item c.0 (left_may e c.0 b.more c.1 c.2) taken) in
       let t : true ≡ false = sym alive ∙ dead in absurd (cc)
     where
       with_item : (q : State) (r : Document) → has_item r ≡ true → accepts a r q ≡ true → (b : Bool) → is_marked items q ≡ b → b ≡ true

@@ -4,14 +4,10 @@ use Rattle.std.specs.Cmp.{IsEquivalence}
 use Rattle.std.specs.List.{Contains, dedup, list_any, slice_get}
 use Rattle.std.proofs.lemmas.List.Folds.{Any-from_list_any, list_any-append, list_any_at}
 use Rattle.std.proofs.lemmas.List.Kept.{Contains-dedup, Contains-from_dedup}
-use Rattle.xd_auto.proofs.Anys.{Found, found, any_at}
+use Rattle.std.proofs.lemmas.Map.Keys.{any_passes_from_place}
+use Rattle.xd_doc.proofs.Bools.{same_tests}
+use Rattle.xd_auto.proofs.Anys.{Found, found}
 use Rattle.xd_stream.specs.Standing.{AllPass}
-
--- two bools with the same truth are one
-pub same_truth : (x y : Bool) → (x ≡ true → y ≡ true) → (y ≡ true → x ≡ true) → x ≡ y
-same_truth true y f g = sym (f refl)
-same_truth false true f g = g refl
-same_truth false false f g = refl
 
 module _ {X : Type 0} where
   pub any_same : (f g : X → Bool) → ((x : X) → f x ≡ g x) → (xs : List X) → list_any f xs ≡ list_any g xs
@@ -53,7 +49,7 @@ module _ {X : Type 0} where
     where
       go : (b : Bool) → g x ≡ b → b ≡ true
       go true e = refl
-      go false e = absurd (let t : true ≡ false = sym (any_at (λ y. not (g y)) xs n x at (ap not e)) ∙ all in cc)
+      go false e = absurd (let t : true ≡ false = sym (any_passes_from_place (λ y. not (g y)) xs n x at (ap not e)) ∙ all in cc)
 
   -- none passes a test that each at a place fails
   pub none_at : (h : X → Bool) (xs : List X) → ((n : ℕ) (x : X) → slice_get xs n ≡ Some x → h x ≡ false) → list_any h xs ≡ false
@@ -85,7 +81,7 @@ any_within f xs ys within h =
 -- neighbours that are equal are taken as one
 pub any_dedup : {X : Type 0} {E : X → X → Bool} → IsEquivalence E → ((x y : X) → E x y ≡ true → x ≡ y) → (f : X → Bool) (xs : List X) → list_any f (dedup E xs) ≡ list_any f xs
 any_dedup {X} {E} e same f xs =
-    same_truth (list_any f (dedup E xs)) (list_any f xs)
+    same_tests (list_any f (dedup E xs)) (list_any f xs)
     (any_within f (dedup E xs) xs (λ x h. Contains-from_dedup E xs x h))
     (any_within f xs (dedup E xs) (λ x h. Contains-dedup e same xs x h))
 

@@ -1,9 +1,8 @@
 -- What a machine does at a byte.
-use Rattle.std.proofs.Common.{◌≡◌, ◌≢◌, ℕ, ◌+◌, ◌-◌, ◌<◌, true, false, List, [], ◌∷◌, ◌++◌, length, take, refl, sym, ap, subst, ◌∙◌, arith, IsUtf8, append_assoc, length-append}
+use Rattle.std.proofs.Common.{◌≡◌, ◌≢◌, ℕ, ◌+◌, ◌-◌, ◌<◌, true, false, List, [], ◌∷◌, ◌++◌, refl, sym, ap, subst, ◌∙◌, arith, IsUtf8, append_assoc}
 use Rattle.std.specs.Prelude.{◌==◌, ◌&&◌, nat_le, nat_lt}
 use Rattle.std.proofs.lemmas.Bool.{ne_eqb, and_parts, and_from}
-use Rattle.std.proofs.Math.Seq.{take-append_seam}
-use Rattle.xd_lex.proofs.Fronts.{word_ascii}
+use Rattle.xd_lex.proofs.Fronts.{word_ascii, blank_ascii}
 use Rattle.std.proofs.lemmas.Bool.Decides.{nat_tests}
 use Rattle.std.proofs.lemmas.List.{append-nil}
 use Rattle.std.proofs.lemmas.Str.{IsUtf8-append}
@@ -15,7 +14,8 @@ use Rattle.xd_lex.specs.Scan.{is_blank}
 use Rattle.xd_lex.specs.Tokens.{after, past}
 use Rattle.xd_lex.proofs.Skipped.{past-append}
 use Rattle.xd_read.specs.Grammar.{Label, ParenL}
-use Rattle.xd_read.specs.Reading.{terminal, word_of}
+use Rattle.xd_read.specs.Reading.{terminal}
+use Rattle.xd_read.proofs.CanonicalSpells.{word_of-label}
 use Rattle.xd_stream.specs.StopByState.{IsAccepted}
 use Rattle.xd_stream.specs.Stop.{StopsMalformed, StopsOutside, told, tokens_at}
 use Rattle.xd_stream.specs.Characters.{IsPartial, none}
@@ -35,9 +35,6 @@ use Rattle.xd_stream.proofs.PlainBytes.{parts_join}
 use Rattle.xd_stream.proofs.InFront.{IsOtherFirst, IsStrange, IsTokenAt, ascii_utf8, blank_at, label_at, paren_l_at, strange_at, word_at}
 
 -- ---- places
-
-pub blank_ascii : (b : ℕ) → is_blank b ≡ true → b < 128
-blank_ascii b h = grind (arith, nat_tests)
 
 pub column_after : (p : Place) (b : ℕ) → b ≢ 10 → b < 128 → after p b ≡ record { line = p.line; column = p.column + 1 }
 column_after p b n lt = rw (ne_eqb b 10 n, low) refl
@@ -160,9 +157,6 @@ word_more (c ∷ cs) xs h k = let p = and_parts (is_word_start c) (are_word_part
 
 pub part_line : (b : ℕ) → is_word_part b ≡ true → b ≢ 10
 part_line b h e = let t : is_word_part 10 ≡ true = subst (λ n. is_word_part n ≡ true) e h in cc
-
-pub word_of-label : (w : List ℕ) → word_of (w ++ 91 ∷ []) ≡ w
-word_of-label w = let e : length (w ++ 91 ∷ []) - 1 ≡ length w = omega (arith, length-append w (91 ∷ [])) in ap (λ n. take n (w ++ 91 ∷ [])) e ∙ take-append_seam w (91 ∷ [])
 
 module _ (m : Machine) (mode : m.mode ≡ modes.Word) where
   word_shape : (bytes : List ℕ) (h : StandsBehind m bytes) → (is_word h.pends.front ≡ true) × (m.held.items ≡ h.pends.front) × (h.pends.partial ≡ [])

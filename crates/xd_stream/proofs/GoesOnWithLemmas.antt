@@ -8,6 +8,7 @@ use Rattle.std.proofs.lemmas.List.{append-nil, length-reverse, nil_from_length}
 use Rattle.std.proofs.lemmas.List.Folds.{list_any-append}
 use Rattle.xd_doc.specs.Classes.{class_has}
 use Rattle.xd_doc.specs.Word.{is_word}
+use Rattle.xd_doc.proofs.Bools.{and_true, and_assoc}
 use Rattle.xd_read.specs.Grammar.{Terminal, Text, Label, ParenL, ParenR, BracketR, Comma, End, Spells}
 use Rattle.xd_auto.specs.declared.auto.LabelMove.{LabelMove}
 use Rattle.xd_auto.specs.declared.auto.TextMove.{TextMove}
@@ -62,14 +63,6 @@ any_one_if f true x = or_none (f x)
     or_none true = refl
     or_none false = refl
 any_one_if f false x = refl
-
-and_assoc : (x y z : Bool) → ((x && y) && z) ≡ (x && (y && z))
-and_assoc true y z = refl
-and_assoc false y z = refl
-
-and_true : (x : Bool) → (x && true) ≡ x
-and_true true = refl
-and_true false = refl
 
 -- ---- the pairs after a text, and the moves that an element would wait with
 

@@ -11,15 +11,16 @@ use Rattle.std.proofs.lemmas.Cmp.{nat_eq_equiv}
 use Rattle.std.proofs.lemmas.List.{get_or_default}
 use Rattle.std.proofs.lemmas.List.Folds.{Any-from_list_any, list_any_at}
 use Rattle.std.proofs.lemmas.List.Sorted.{searched}
+use Rattle.xd_doc.proofs.Bools.{same_tests}
 use Rattle.xd_auto.specs.declared.auto.State.{State}
 use Rattle.xd_stream.specs.declared.pairs.Pair.{Pair}
-use Rattle.xd_stream.proofs.AllPassLemmas.{any_dedup, same_truth}
+use Rattle.xd_stream.proofs.AllPassLemmas.{any_dedup}
 
 -- a test that finds the same alone
 equality : {X : Type 0} (E : X → X → Bool) → ((x : X) → E x x ≡ true) → ((x y : X) → E x y ≡ true → x ≡ y) → IsEquivalence E
 equality {X} E each same = record {
   refl = each;
-  symm = λ x y. same_truth (E x y) (E y x) (back x y) (back y x);
+  symm = λ x y. same_tests (E x y) (E y x) (back x y) (back y x);
   congr = λ x y z h. ap (λ (v : X). E v z) (same x y h);
 }
   where

@@ -15,12 +15,12 @@ use Rattle.xd_lex.specs.Spellings.{IsSpelling}
 use Rattle.xd_lex.specs.Spelled.{unescaped}
 use Rattle.xd_lex.specs.Reading.{IsGap, Reads, blank, broken, comment, end, gap, token}
 use Rattle.xd_lex.specs.Tokens.{Lexeme, past, start, tokens_of}
-use Rattle.xd_lex.proofs.Fronts.{begins_ascii, word_ascii}
+use Rattle.xd_lex.proofs.Fronts.{begins_ascii, word_ascii, blank_ascii}
 use Rattle.xd_lex.proofs.ReadLemmas.{tokens_are_read}
 use Rattle.xd_read.specs.Grammar.{Context, Whole, Content, Behind, Items, Lead, Nothing, Terminal, Text, Label, BracketR, End}
 use Rattle.xd_read.specs.Reading.{terminal, terminals_of, word_of}
+use Rattle.xd_read.proofs.CanonicalSpells.{word_of-label}
 use Rattle.xd_stream.specs.Laws.{SpelledIsProper}
-use Rattle.xd_stream.proofs.Bytes.{blank_ascii, word_of-label}
 use Rattle.xd_stream.proofs.QuotedTexts.{unescaped_utf8}
 
 -- a label is a word, and a text is UTF-8

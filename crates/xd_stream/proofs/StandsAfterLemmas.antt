@@ -1,9 +1,9 @@
 -- What a validator stands for, from token to token.
-use Rattle.std.proofs.Common.{◌≡◌, ℕ, suc, ◌+◌, ◌-◌, length-drop, ◌<◌, ◌↔◌, Bool, true, false, not, ◌&&◌, ◌||◌, ◌==◌, List, [], ◌∷◌, ◌++◌, length, take, drop, reverse, Some, None, refl, sym, ap, subst, ◌∙◌, arith, length-append}
+use Rattle.std.proofs.Common.{◌≡◌, ℕ, suc, ◌+◌, ◌-◌, ◌<◌, ◌↔◌, Bool, true, false, not, ◌&&◌, ◌||◌, ◌==◌, List, [], ◌∷◌, ◌++◌, length, take, drop, reverse, Some, None, refl, sym, ap, subst, ◌∙◌, arith, length-append}
 use Rattle.std.specs.List.{list_any}
 use Rattle.std.specs.Str.{is_utf8}
 use Rattle.std.proofs.lemmas.Bool.{ne_eqb}
-use Rattle.std.proofs.lemmas.List.{take_all, append-nil, length-reverse, reverse-append, length-take-le}
+use Rattle.std.proofs.lemmas.List.{append-nil, length-reverse, reverse-append, length-take-le}
 use Rattle.std.proofs.Math.Seq.{take-append_seam, drop-append_seam}
 use Rattle.xd_doc.specs.Document.{Document, empty, text, element, join, is_proper}
 use Rattle.xd_doc.specs.Word.{is_word}
@@ -279,10 +279,6 @@ stands_first v marks items at waiting places pairs = record {
 -- what was added to nothing
 pub fresh : {X : Type 0} (f : X → Bool) (old new : List X) (b : Bool) → old ≡ [] → list_any f new ≡ (list_any f old || b) → list_any f new ≡ b
 fresh f old new b e h = rw e at h
-
--- what stands from a place on
-pub to_end : {X : Type 0} (xs : List X) (n : ℕ) → take (length xs - n) (drop n xs) ≡ drop n xs
-to_end xs n = take_all (length xs - n) (drop n xs) (omega (arith, length-drop n xs))
 
 pub test_refuses : {X : Type 0} (v w : Validator) (t : Terminal) (r : Result X Refusal) → Goes v t w → IfErr r (λ e. (ts : List Terminal) → StandsAfter w ts → BeginsAccepted w.automaton w.start ts → ⊥) → IfErr r (λ e. e ≡ refusals.Outside) → IfErr r (Refuses v t)
 test_refuses v w t (Ok x) g dead is = tt

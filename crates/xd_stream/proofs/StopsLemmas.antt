@@ -42,6 +42,7 @@ use Rattle.xd_stream.proofs.InFront.{ascii_utf8, broken_comment_at, broken_text_
 use Rattle.xd_stream.proofs.TokensAtLemmas.{at_end}
 use Rattle.xd_stream.proofs.TextFrontLemmas.{tokens-open_text, tokens-open_comment}
 use Rattle.xd_stream.proofs.WideBytes.{nothing_partial, partial_none}
+use Rattle.xd_stream.proofs.Inside.{only_front}
 
 -- nothing is left
 pub nothing_left : (p : Place) → tokens_at p [] ≡ record { kind = kinds.End; text = []; place = p } ∷ []
@@ -199,9 +200,6 @@ some_partial w bytes left (two_of_three x y a k low high z e) = rw e (omega arit
 some_partial w bytes left (two_of_four x y a k low high z e) = rw e (omega arith)
 some_partial w bytes left (three_of_four x y v a k j low high z e) = rw e (omega arith)
 
-all_front : (pending front us f : List ℕ) → pending ≡ front ++ us → front ≡ f → us ≡ [] → pending ≡ f
-all_front pending front us f p a b = p ∙ ap (λ (xs : List ℕ). front ++ xs) b ∙ append-nil front ∙ a
-
 pub text_ends_within : (m : Machine) (e : Bool) → m.mode ≡ modes.Text e → 0 < m.awaited.left → (bytes : List ℕ) → StandsBehind m bytes → Stops m bytes (errors.Malformed m.place)
 text_ends_within m e mode left bytes h =
     let s : (pieces : List ℕ) × (h.pends.front ≡ 34 ∷ pieces) × (scan_text false pieces ≡ Some e) × (m.held.items ≡ h.pends.front ++ h.pends.partial) = subst (λ k. HasShape k m.held.items h.pends.front h.pends.partial) mode h.pends.shape in
@@ -218,7 +216,7 @@ text_ends_within m e mode left bytes h =
 pub text_ends : (m : Machine) (e : Bool) → m.mode ≡ modes.Text e → m.awaited.left ≡ 0 → (bytes : List ℕ) → StandsBehind m bytes → Stops m bytes (errors.Malformed m.begun)
 text_ends m e mode left bytes h =
     let s : (pieces : List ℕ) × (h.pends.front ≡ 34 ∷ pieces) × (scan_text false pieces ≡ Some e) × (m.held.items ≡ h.pends.front ++ h.pends.partial) = subst (λ k. HasShape k m.held.items h.pends.front h.pends.partial) mode h.pends.shape in
-    let p : h.pending ≡ 34 ∷ s.0 = all_front h.pending h.pends.front h.pends.partial (34 ∷ s.0) h.pends.parts s.1 (nothing_partial m.awaited h.pends.partial left h.pends.awaits) in
+    let p : h.pending ≡ 34 ∷ s.0 = only_front h.pending h.pends.front h.pends.partial (34 ∷ s.0) h.pends.parts s.1 (nothing_partial m.awaited h.pends.partial left h.pends.awaits) in
     end_refused m bytes h refusals.Malformed m.begun (record {
       token = record { kind = kinds.Broken OpenText; text = []; place = h.from };
       after = [];
@@ -243,7 +241,7 @@ comment_ends_within m e mode left bytes h =
 pub comment_ends_open : (m : Machine) (e : Bool) → m.mode ≡ modes.Comment e → m.awaited.left ≡ 0 → (bytes : List ℕ) → StandsBehind m bytes → Stops m bytes (errors.Malformed m.begun)
 comment_ends_open m e mode left bytes h =
     let s : (inside : List ℕ) × (h.pends.front ≡ 40 ∷ 42 ∷ inside) × (scan_comment false inside ≡ Some e) × (m.held.items ≡ []) = subst (λ k. HasShape k m.held.items h.pends.front h.pends.partial) mode h.pends.shape in
-    let p : h.pending ≡ 40 ∷ 42 ∷ s.0 = all_front h.pending h.pends.front h.pends.partial (40 ∷ 42 ∷ s.0) h.pends.parts s.1 (nothing_partial m.awaited h.pends.partial left h.pends.awaits) in
+    let p : h.pending ≡ 40 ∷ 42 ∷ s.0 = only_front h.pending h.pends.front h.pends.partial (40 ∷ 42 ∷ s.0) h.pends.parts s.1 (nothing_partial m.awaited h.pends.partial left h.pends.awaits) in
     end_refused m bytes h refusals.Malformed m.begun (record {
       token = record { kind = kinds.Broken OpenComment; text = []; place = h.from };
       after = [];

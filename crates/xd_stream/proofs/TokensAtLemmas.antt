@@ -7,13 +7,13 @@ use Rattle.std.proofs.lemmas.Bool.{eqb-true, eq-eqb, ne_eqb}
 use Rattle.std.proofs.lemmas.List.{append-nil}
 use Rattle.std.proofs.Math.Seq.{take-length}
 use Rattle.xd_base.specs.declared.Place.{Place}
+use Rattle.xd_doc.proofs.Bools.{same_tests}
 use Rattle.xd_lex.specs.declared.Kind.{Kind}
 use Rattle.xd_lex.specs.declared.Kind.TheVariants as kinds
 use Rattle.xd_lex.specs.declared.LexFault.TheVariants.{BadCharacter}
 use Rattle.xd_lex.specs.Tokens.{Lexeme, past, tokens_from}
 use Rattle.xd_lex.proofs.Skipped.{past-append}
 use Rattle.xd_stream.specs.Stop.{text_front, is_open, cut_off, cut_off_unless, tokens_at}
-use Rattle.xd_stream.proofs.AllPassLemmas.{same_truth}
 use Rattle.xd_stream.proofs.Fronts.{take_past, valid_len-append, valid_len-none, valid_len-all}
 
 -- a text in front of bytes
@@ -21,7 +21,7 @@ pub text_front-append : (t x : List ℕ) → IsUtf8 t → text_front (t ++ x) �
 text_front-append t x u = ap (λ n. take n (t ++ x)) (valid_len-append t x u) ∙ take_past t x (utf8_valid_len x)
 
 same_more : (k a b : ℕ) → (k + a == k + b) ≡ (a == b)
-same_more k a b = same_truth (k + a == k + b) (a == b)
+same_more k a b = same_tests (k + a == k + b) (a == b)
     (λ e. eq-eqb a b (let f : k + a ≡ k + b = eqb-true (k + a) (k + b) e in omega arith))
     (λ e. eq-eqb (k + a) (k + b) (ap (λ n. k + n) (eqb-true a b e)))
 

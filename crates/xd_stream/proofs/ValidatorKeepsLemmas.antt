@@ -3,10 +3,12 @@ use Rattle.std.proofs.Common.{◌≡◌, ℕ, suc, Bool, true, false, not, ◌&&
 use Rattle.std.specs.List.{list_any}
 use Rattle.std.proofs.lemmas.Bool.{and_parts, and_from, eqb-true, eq-eqb}
 use Rattle.std.specs.Str.{is_utf8}
+use Rattle.std.proofs.lemmas.Map.Keys.{any_passes_from_place}
 use Rattle.xd_doc.specs.Document.{Document, empty, text, element, join, is_proper}
 use Rattle.xd_doc.specs.Word.{is_word}
 use Rattle.xd_doc.specs.Classes.{class_has}
 use Rattle.xd_doc.proofs.Joins.{join_assoc, join_empty-right}
+use Rattle.xd_doc.proofs.Bools.{same_tests}
 use Rattle.xd_read.specs.Grammar.{Terminal, Text, Label, BracketR, Spells}
 use Rattle.xd_read.specs.Completes.{Frame, Completes}
 use Rattle.xd_read.specs.declared.moves.Expect.TheVariants as expects
@@ -15,7 +17,8 @@ use Rattle.xd_auto.specs.declared.auto.State.{State}
 use Rattle.xd_auto.specs.declared.auto.LabelMove.{LabelMove}
 use Rattle.xd_auto.specs.declared.auto.TextMove.{TextMove}
 use Rattle.xd_auto.specs.Automaton.{Automaton, accepts, moves_at, state_number, takes_element, takes_word}
-use Rattle.xd_auto.proofs.Anys.{Found, found, any_at}
+use Rattle.xd_auto.proofs.Anys.{Found, found}
+use Rattle.xd_auto.proofs.Closed.{state_of_number}
 use Rattle.xd_empty.specs.Parts.{AreMarks, is_marked}
 use Rattle.xd_stream.specs.Positions.{expected, takes_item, takes_close}
 use Rattle.xd_stream.specs.Pairs.{same_state, leads_text, leads_label, ends_in, leads_over_text, leads_over_label, begins_content, leads_behind}
@@ -24,21 +27,18 @@ use Rattle.xd_stream.specs.declared.pairs.Pair.{Pair}
 use Rattle.xd_stream.specs.declared.pairs.Waiting.{Waiting}
 use Rattle.xd_stream.specs.declared.position.Position.{Position}
 use Rattle.xd_stream.specs.declared.position.Position.TheVariants as positions
-use Rattle.xd_stream.proofs.AllPassLemmas.{same_truth, any_same, any_and_right, any_and_left, any_swap, pass_at, none_at, pass_none}
+use Rattle.xd_stream.proofs.AllPassLemmas.{any_same, any_and_right, any_and_left, any_swap, pass_at, none_at, pass_none}
 use Rattle.xd_stream.proofs.Grammar.{text_step, label_step, close_step, went}
 
-number_same : (s t : State) → state_number s ≡ state_number t → s ≡ t
-number_same s t e = let back : ℕ → State = λ n. record { number = n } in ap back e
-
 pub state_same : (s t : State) → same_state s t ≡ true → s ≡ t
-state_same s t h = number_same s t (eqb-true (state_number s) (state_number t) h)
+state_same s t h = state_of_number s t (eqb-true (state_number s) (state_number t) h)
 
 pub same_itself : (s : State) → same_state s s ≡ true
 same_itself s = eq-eqb (state_number s) (state_number s) refl
 
 pub same_turned : (s t : State) → same_state s t ≡ same_state t s
 same_turned s t =
-    same_truth (same_state s t) (same_state t s)
+    same_tests (same_state s t) (same_state t s)
     (λ h. eq-eqb (state_number t) (state_number s) (sym (eqb-true (state_number s) (state_number t) h)))
     (λ h. eq-eqb (state_number s) (state_number t) (sym (eqb-true (state_number t) (state_number s) h)))
 
@@ -116,7 +116,7 @@ module _ (a : Automaton) (s : State) (marks : List Bool) (m : AreMarks a marks) 
   -- at one
   one_group : (h : State → Bool) (k : Waiting → Bool) (ws : List Waiting)
       → list_any (λ w. h w.content && list_any (λ v. same_state v.content w.content && k v) ws) ws ≡ list_any (λ w. h w.content && k w) ws
-  one_group h k ws = same_truth (list_any (λ w. h w.content && list_any (λ v. same_state v.content w.content && k v) ws) ws) (list_any (λ w. h w.content && k w) ws) there back
+  one_group h k ws = same_tests (list_any (λ w. h w.content && list_any (λ v. same_state v.content w.content && k v) ws) ws) (list_any (λ w. h w.content && k w) ws) there back
     where
       there : list_any (λ w. h w.content && list_any (λ v. same_state v.content w.content && k v) ws) ws ≡ true → list_any (λ w. h w.content && k w) ws ≡ true
       there e =
@@ -124,15 +124,15 @@ module _ (a : Automaton) (s : State) (marks : List Bool) (m : AreMarks a marks) 
           let parts = and_parts (h f.item.content) (list_any (λ v. same_state v.content f.item.content && k v) ws) f.passes in
           let g : Found (λ (v : Waiting). same_state v.content f.item.content && k v) ws = found (λ v. same_state v.content f.item.content && k v) ws parts.1 in
           let more = and_parts (same_state g.item.content f.item.content) (k g.item) g.passes in
-          any_at (λ w. h w.content && k w) ws g.place g.item g.there (and_from (h g.item.content) (k g.item) (ap h (state_same g.item.content f.item.content more.0) ∙ parts.0) more.1)
+          any_passes_from_place (λ w. h w.content && k w) ws g.place g.item g.there (and_from (h g.item.content) (k g.item) (ap h (state_same g.item.content f.item.content more.0) ∙ parts.0) more.1)
 
       back : list_any (λ w. h w.content && k w) ws ≡ true → list_any (λ w. h w.content && list_any (λ v. same_state v.content w.content && k v) ws) ws ≡ true
       back e =
           let f : Found (λ (w : Waiting). h w.content && k w) ws = found (λ w. h w.content && k w) ws e in
           let parts = and_parts (h f.item.content) (k f.item) f.passes in
-          any_at (λ w. h w.content && list_any (λ v. same_state v.content w.content && k v) ws) ws f.place f.item f.there
+          any_passes_from_place (λ w. h w.content && list_any (λ v. same_state v.content w.content && k v) ws) ws f.place f.item f.there
           (and_from (h f.item.content) (list_any (λ v. same_state v.content f.item.content && k v) ws) parts.0
-          (any_at (λ v. same_state v.content f.item.content && k v) ws f.place f.item f.there (and_from (same_state f.item.content f.item.content) (k f.item) (same_itself f.item.content) parts.1)))
+          (any_passes_from_place (λ v. same_state v.content f.item.content && k v) ws f.place f.item f.there (and_from (same_state f.item.content f.item.content) (k f.item) (same_itself f.item.content) parts.1)))
 
   no_bad_content : (c k j : Bool) → (c && ((k && j) && not k)) ≡ false
   no_bad_content true true true = refl
@@ -166,7 +166,7 @@ module _ (a : Automaton) (s : State) (marks : List Bool) (m : AreMarks a marks) 
   begun_sound wss ws all =
       none_at (begins_content (λ q. not (is_sound marks (ws ∷ wss) q))) ws
       (λ n w at. not_and (is_marked marks w.content) (list_any (λ v. same_state v.content w.content) ws) (pass_at (λ v. is_marked marks v.content) ws n w all at)
-      (any_at (λ v. same_state v.content w.content) ws n w at (same_itself w.content)))
+      (any_passes_from_place (λ v. same_state v.content w.content) ws n w at (same_itself w.content)))
 
   pub label_taken : (e : Position) (now next : List Pair) (ws : List Waiting) (wss : List (List Waiting)) (ts : List Terminal) (l : List ℕ) → takes_item e ≡ true → is_word l ≡ true
       → ((f : Waiting → Bool) → list_any f ws ≡ leads_over_label a marks l f now) → ((f : Pair → Bool) → list_any f next ≡ list_any (begins_content f) ws)

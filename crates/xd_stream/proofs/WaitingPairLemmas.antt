@@ -2,7 +2,9 @@
 use Rattle.std.proofs.Common.{ℕ, ◌+◌, ◌<◌, ◌≡◌, Bool, true, false, not, ◌||◌, ◌&&◌, List, [], ◌∷◌, ◌++◌, length, take, get_or, ap, refl, sym, ◌∙◌, append_assoc}
 use Rattle.std.specs.List.{list_any}
 use Rattle.std.proofs.lemmas.List.Folds.{list_any-append, list_any_more}
+use Rattle.std.proofs.lemmas.Bool.{and_left, or_parts}
 use Rattle.xd_doc.specs.Classes.{class_has}
+use Rattle.xd_doc.proofs.Bools.{or_join}
 use Rattle.xd_auto.specs.declared.auto.State.{State}
 use Rattle.xd_auto.specs.declared.auto.LabelMove.{LabelMove}
 use Rattle.xd_auto.specs.declared.auto.TextMove.{TextMove}
@@ -14,16 +16,9 @@ use Rattle.xd_stream.specs.declared.pairs.Waiting.{Waiting}
 use Rattle.xd_stream.proofs.Next.{any_one, any_all}
 use Rattle.xd_stream.proofs.AllPassLemmas.{pass_same}
 
-and_false : (x y : Bool) → x ≡ false → (x && y) ≡ false
-and_false x y e = rw e refl
-
-or_assoc : (x y z : Bool) → ((x || y) || z) ≡ (x || (y || z))
-or_assoc true y z = refl
-or_assoc false y z = refl
-
 module _ (marks : List Bool) (t : List ℕ) (first : State) (moves : List TextMove) (base : List Pair) where
   needs : (f : Pair → Bool) (m : TextMove) → has_text m t ≡ false → leads_text marks t f first m ≡ false
-  needs f m e = and_false (class_has m.words t) (is_marked marks m.rest && f (record { first = first; present = m.rest })) e
+  needs f m e = and_left (class_has m.words t) (is_marked marks m.rest && f (record { first = first; present = m.rest })) e
 
   pub text_one : (now new : List Pair) (from n : ℕ) (m : TextMove) → IsNext has_text moves t from n → n < length moves → m ≡ get_or moves n m
       → ((f : Pair → Bool) → list_any f now ≡ (list_any f base || list_any (leads_text marks t f first) (take from moves)))
@@ -32,7 +27,7 @@ module _ (marks : List Bool) (t : List ℕ) (first : State) (moves : List TextMo
   text_one now new from n m next lt is old more f =
       more f
       ∙ ap (λ b. b || (is_marked marks m.rest && f (record { first = first; present = m.rest }))) (old f)
-      ∙ or_assoc (list_any f base) (list_any (leads_text marks t f first) (take from moves)) (is_marked marks m.rest && f (record { first = first; present = m.rest }))
+      ∙ or_join (list_any f base) (list_any (leads_text marks t f first) (take from moves)) (is_marked marks m.rest && f (record { first = first; present = m.rest }))
       ∙ ap (λ b. list_any f base || b)
       (ap (λ b. list_any (leads_text marks t f first) (take from moves) || b) here ∙ sym (any_one has_text (leads_text marks t f first) t moves (needs f) from n m next lt))
     where
@@ -65,7 +60,7 @@ pub behind_one : (a : Automaton) (now : List Pair) (ws : List Waiting) (f : Pair
 behind_one a now ws f base mid new i w lt old more =
     more
     ∙ ap (λ b. b || leads_behind a now f (get_or ws i w)) old
-    ∙ or_assoc (list_any f base) (list_any (leads_behind a now f) (take i ws)) (leads_behind a now f (get_or ws i w))
+    ∙ or_join (list_any f base) (list_any (leads_behind a now f) (take i ws)) (leads_behind a now f (get_or ws i w))
     ∙ ap (λ b. list_any f base || b) (sym (list_any_more (leads_behind a now f) ws i w lt))
 
 -- moves that wait, after those that were there
@@ -76,7 +71,7 @@ pub record Waits (marks : List Bool) (l : List ℕ) (first : State) (moves : Lis
 
 module _ (marks : List Bool) (l : List ℕ) (first : State) (moves : List LabelMove) (base : List Waiting) where
   needs_label : (f : Waiting → Bool) (m : LabelMove) → has_label m l ≡ false → leads_label marks l f first m ≡ false
-  needs_label f m e = and_false (class_has m.class l) ((is_marked marks m.content && is_marked marks m.rest) && f (record { first = first; content = m.content; rest = m.rest })) e
+  needs_label f m e = and_left (class_has m.class l) ((is_marked marks m.content && is_marked marks m.rest) && f (record { first = first; content = m.content; rest = m.rest })) e
 
   -- with the move where it is marked
   abbrev pub wait_of : LabelMove → Waiting
@@ -131,15 +126,11 @@ each_alike marks t f first moves h =
     pass_same (λ m. class_has m.words t) (leads_on_text marks f first) (leads_text marks t f first) moves h
     (λ m e. sym (ap (λ b. b && (is_marked marks m.rest && f (record { first = first; present = m.rest }))) e))
 
-neither : (x y : Bool) → (x || y) ≡ false → (x ≡ false) × (y ≡ false)
-neither true y h = absurd (cc)
-neither false y h = (refl, h)
-
 pub every_alike : (a : Automaton) (marks : List Bool) (t : List ℕ) (f : Pair → Bool) (now : List Pair) → TakesEveryText a now → leads_over_every_text a marks f now ≡ leads_over_text a marks t f now
 every_alike a marks t f now h = go now (h t)
   where
     go : (ps : List Pair) → list_any (λ p. list_any (λ m. not (class_has m.words t)) (moves_at a p.present).texts) ps ≡ false → leads_over_every_text a marks f ps ≡ leads_over_text a marks t f ps
     go [] e = refl
     go (p ∷ ps) e =
-        let parts = neither (list_any (λ m. not (class_has m.words t)) (moves_at a p.present).texts) (list_any (λ q. list_any (λ m. not (class_has m.words t)) (moves_at a q.present).texts) ps) e in
+        let parts = or_parts (list_any (λ m. not (class_has m.words t)) (moves_at a p.present).texts) (list_any (λ q. list_any (λ m. not (class_has m.words t)) (moves_at a q.present).texts) ps) e in
         ap (λ b. b || leads_over_every_text a marks f ps) (each_alike marks t f p.first (moves_at a p.present).texts parts.0) ∙ ap (λ b. list_any (leads_text marks t f p.first) (moves_at a p.present).texts || b) (go ps parts.1)

@@ -1,5 +1,5 @@
 -- The expressions of a table that grows.
-use Rattle.std.proofs.Common.{◌≡◌, ℕ, zero, suc, ◌+◌, ◌<◌, arith, List, [], ◌∷◌, ◌++◌, map, length, take, get_or, refl, ap, sym, ◌∙◌, subst, length-append, append_assoc, append-nil}
+use Rattle.std.proofs.Common.{◌≡◌, ℕ, zero, suc, ◌+◌, ◌<◌, arith, List, [], ◌∷◌, ◌++◌, map, length, take, get_or, refl, ap, sym, ◌∙◌, subst, length-append, append_assoc, append-nil, ◌≤◌}
 use Rattle.std.specs.List.{AllByRecursion}
 use Rattle.std.proofs.Math.ListN.{get_or-append}
 use Rattle.std.proofs.Math.Seq.{get_or-append_seam}
@@ -7,10 +7,12 @@ use Rattle.xd_base.specs.declared.Place.{Place}
 use Rattle.xd_syntax.specs.Table.{Row}
 use Rattle.xd_syntax.specs.Placed.{PlacedTree}
 use Rattle.xd_syntax.specs.PlacedTable.{placed_at, the_start}
-use Rattle.xd_syntax.specs.Expression.{Expression, Nothing, Tagged, Called, joined, arguments_of}
+use Rattle.xd_syntax.specs.Expression.{Expression, Nothing, Tagged, Called, joined, arguments_of, place_of_expression}
 use Rattle.xd_syntax.specs.ExpressionTable.{ExprRow, ExprShape, empty_shape, text_shape, var_shape, elem_shape, seq_shape, call_shape, match_shape, clauses_of, shape_expression, expression_in, expressions_after, expression_at, IsJoinedPart, ExprCanFollow, ExprsAreBuiltAfter, ExprsAreBuilt, ExprPartsBelow, ShapePatternsBelong, PatternsBelong}
+use Rattle.xd_syntax.specs.Exprs.{expr_numbers}
+use Rattle.xd_syntax.specs.declared.exprs.ExprId.{ExprId}
 
-joined_parts_below : (rs : List ExprRow) (is : List ℕ) → AllByRecursion (IsJoinedPart rs) is → AllByRecursion (λ i. i < length rs) is
+pub joined_parts_below : (rs : List ExprRow) (is : List ℕ) → AllByRecursion (IsJoinedPart rs) is → AllByRecursion (λ i. i < length rs) is
 joined_parts_below rs [] a = tt
 joined_parts_below rs (i ∷ is) a = (a.0.0, joined_parts_below rs is a.1)
 
@@ -145,3 +147,18 @@ pub expression_is : (patterns : List Row) (rs : List ExprRow) (i : ℕ) (d : Exp
 expression_is patterns rs i d a h = let e : 0 + i ≡ i = omega arith in
     subst (λ n. expression_at patterns rs n ≡ shape_expression (placed_at patterns) (expression_at patterns rs) (get_or rs i d).place (get_or rs i d).form) e
     (expression_node patterns [] rs i d a h)
+
+pub place_of_shape : (P : ℕ → PlacedTree) (t : ℕ → Expression) (p : Place) (rs : List ExprRow) (f : ExprShape) → ExprCanFollow rs f → place_of_expression (shape_expression P t p f) ≡ p
+place_of_shape P t p rs empty_shape h = refl
+place_of_shape P t p rs (text_shape s) h = refl
+place_of_shape P t p rs (var_shape x) h = refl
+place_of_shape P t p rs (elem_shape l i) h = refl
+place_of_shape P t p rs (seq_shape []) h = absurd (let l : 2 ≤ 0 = h.0 in omega arith)
+place_of_shape P t p rs (seq_shape (i ∷ [])) h = absurd (let l : 2 ≤ 1 = h.0 in omega arith)
+place_of_shape P t p rs (seq_shape (i ∷ (j ∷ js))) h = refl
+place_of_shape P t p rs (call_shape f is) h = refl
+place_of_shape P t p rs (match_shape i cs) h = refl
+
+pub count_numbers : (ids : List ExprId) → length (expr_numbers ids) ≡ length ids
+count_numbers [] = refl
+count_numbers (i ∷ ids) = ap suc (count_numbers ids)

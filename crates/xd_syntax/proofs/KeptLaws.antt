@@ -1,5 +1,5 @@
 -- A program whose tables have grown by types is the same program.
-use Rattle.std.proofs.Common.{◌≡◌, ℕ, ◌<◌, arith, List, [], ◌∷◌, ◌++◌, map, length, length-append, refl}
+use Rattle.std.proofs.Common.{◌≡◌, ℕ, ◌<◌, arith, List, [], ◌∷◌, ◌++◌, map, length, length-append, refl, Some, subst, sym}
 use Rattle.std.specs.List.{AllByRecursion}
 use Rattle.xd_syntax.specs.Table.{Row}
 use Rattle.xd_syntax.specs.Types.{BelongsTo}
@@ -9,6 +9,8 @@ use Rattle.xd_syntax.specs.Kept.{ProgramTable, TypeDefStands, FunctionStands, Pr
 use Rattle.xd_syntax.specs.declared.types.TypeDef.{TypeDef}
 use Rattle.xd_syntax.specs.declared.program.Param.{Param}
 use Rattle.xd_syntax.proofs.PlacedTrees.{placed_kept}
+use Rattle.xd_syntax.specs.SoundTables.{only_parameter}
+use Rattle.xd_syntax.specs.declared.types.TypeId.{TypeId}
 
 belongs_more : (types more : List Row) (i : ℕ) → i < length types → i < length (types ++ more)
 belongs_more types more i h = omega (arith, length-append types more)
@@ -55,3 +57,14 @@ pub program_tree-grown : (p : ProgramTable) (more : List Row) → ProgramStands 
 program_tree-grown p more s =
     let i = same_defs p.types more p.type_defs s.type_defs in
     let j = same_functions p more p.functions s.functions in cc
+
+pub only_belongs : (types : List Row) (ps : List Param) (id : TypeId) → AllByRecursion (λ (q : Param). BelongsTo types q.body) ps → only_parameter ps ≡ Some id → BelongsTo types id
+only_belongs types [] id a e = absurd (cc)
+only_belongs types (q ∷ []) id a e = let s : q.body ≡ id = cc in subst (BelongsTo types) s a.0
+only_belongs types (q ∷ (r ∷ qs)) id a e = absurd (cc)
+
+pub along : (p : ProgramTable) (types : List Row) (ds : List TypeDef) (Q : List Row → List TypeDef → Type 0) → types ≡ p.types → ds ≡ p.type_defs → Q p.types p.type_defs → Q types ds
+along p types ds Q e f q = subst (λ d. Q types d) (sym f) (subst (λ t. Q t p.type_defs) (sym e) q)
+
+pub back_along : (p : ProgramTable) (types : List Row) (ds : List TypeDef) (Q : List Row → List TypeDef → Type 0) → types ≡ p.types → ds ≡ p.type_defs → Q types ds → Q p.types p.type_defs
+back_along p types ds Q e f q = subst (λ d. Q p.types d) f (subst (λ t. Q t ds) e q)

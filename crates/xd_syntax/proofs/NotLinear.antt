@@ -112,7 +112,7 @@ faults_append r e q (m ∷ ms) ns =
     ∙ sym (append_assoc own (faults_with r e left ms) (faults_with r e (without (words ms) left) ns))
     ∙ ap (λ xs. (own ++ faults_with r e left ms) ++ faults_with r e xs ns) (sym (without_more m.word (words ms) q))
 
-has_word_both : (xs ys : List (List ℕ)) (w : List ℕ) → has_word (xs ++ ys) w ≡ (has_word xs w || has_word ys w)
+pub has_word_both : (xs ys : List (List ℕ)) (w : List ℕ) → has_word (xs ++ ys) w ≡ (has_word xs w || has_word ys w)
 has_word_both [] ys w = refl
 has_word_both (x ∷ xs) ys w = go (bytes_eq x w) (has_word_both xs ys w)
   where

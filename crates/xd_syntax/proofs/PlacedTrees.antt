@@ -1,12 +1,12 @@
 -- The same for trees with places, and that they are the trees with places aside.
-use Rattle.std.proofs.Common.{◌≡◌, ℕ, zero, suc, ◌+◌, ◌<◌, arith, Bool, List, [], ◌∷◌, ◌++◌, map, length, get_or, refl, ap, sym, ◌∙◌, subst, length-append, append_assoc}
+use Rattle.std.proofs.Common.{◌≡◌, ℕ, zero, suc, ◌+◌, ◌<◌, arith, Bool, List, [], ◌∷◌, ◌++◌, map, length, get_or, refl, ap, sym, ◌∙◌, subst, length-append, append_assoc, flat_map, append-nil}
 use Rattle.std.specs.List.{AllByRecursion}
 use Rattle.std.proofs.Math.ListN.{get_or-append}
 use Rattle.std.proofs.Math.Seq.{get_or-append_seam}
 use Rattle.xd_base.specs.declared.Place.{Place}
 use Rattle.xd_syntax.specs.Tree.{Tree, Seq, Alt, Elem, Star, Plus, Opt, Val, seq_of}
 use Rattle.xd_syntax.specs.TreeForms.{alt_of}
-use Rattle.xd_syntax.specs.Placed.{PlacedTree, Empty_at, Elem_at, Star_at, Plus_at, Opt_at, Val_at, placed_seq, placed_alt, unplaced, place_of}
+use Rattle.xd_syntax.specs.Placed.{PlacedTree, Empty_at, Elem_at, Star_at, Plus_at, Opt_at, Val_at, placed_seq, placed_alt, unplaced, place_of, variables}
 use Rattle.xd_syntax.specs.PlacedTable.{placed_form, placed_in, placed_after, placed_at, the_start}
 use Rattle.xd_syntax.specs.Table.{Row, Form, empty_form, text_form, words_form, name_form, elem_form, seq_form, alt_form, star_form, plus_form, opt_form, val_form, form_tree, tree_in, trees_after, tree_at, AreBuiltAfter, AreBuilt, PartsBelow}
 use Rattle.xd_syntax.proofs.Trees.{parts_below}
@@ -151,3 +151,13 @@ unplaced_after ts (r ∷ rs) =
 pub unplaced_at : (rs : List Row) (i : ℕ) → unplaced (placed_at rs i) ≡ tree_at rs i
 unfolding placed_at tree_at
 unplaced_at rs i = unplaced_in (placed_after [] rs) i ∙ ap (λ ts. tree_in ts i) (unplaced_after [] rs)
+
+pub variables_in_seq : (p : Place) (ts : List PlacedTree) → variables (placed_seq p ts) ≡ flat_map variables ts
+variables_in_seq p [] = refl
+variables_in_seq p (t ∷ []) = sym (append-nil (variables t))
+variables_in_seq p (t ∷ (u ∷ us)) = ap (λ xs. variables t ++ xs) (variables_in_seq (place_of u) (u ∷ us))
+
+pub variables_in_alt : (p : Place) (ts : List PlacedTree) → variables (placed_alt p ts) ≡ flat_map variables ts
+variables_in_alt p [] = refl
+variables_in_alt p (t ∷ []) = sym (append-nil (variables t))
+variables_in_alt p (t ∷ (u ∷ us)) = ap (λ xs. variables t ++ xs) (variables_in_alt (place_of u) (u ∷ us))

@@ -3,6 +3,7 @@ use Rattle.std.proofs.Common.{◌≡◌, ℕ, zero, suc, ◌<◌, arith, Bool, t
 use Rattle.std.specs.List.{AllByRecursion}
 use Rattle.xd_base.specs.declared.Place.{Place}
 use Rattle.xd_doc.specs.Word.{is_word}
+use Rattle.xd_doc.proofs.Lists.{all_at}
 use Rattle.xd_syntax.specs.Tree.{Tree, seq_of}
 use Rattle.xd_syntax.specs.TreeForms.{alt_of}
 use Rattle.xd_syntax.specs.Table.{Form, empty_form, text_form, words_form, name_form, elem_form, seq_form, alt_form, star_form, plus_form, opt_form, val_form, Row, form_tree, tree_at, CanFollow, PartsBelow}
@@ -18,7 +19,6 @@ use Rattle.xd_syntax.specs.ProperTables.{IsProperForm, IsProperShape, IsTable, I
 use Rattle.xd_syntax.specs.Kept.{ProgramTable, TypeDefStands, FunctionStands, ProgramStands, IsProperTable, type_definition, parameter, function_definition, program_tree}
 use Rattle.xd_syntax.specs.declared.types.TypeDef.{TypeDef}
 use Rattle.xd_syntax.specs.declared.program.Param.{Param}
-use Rattle.xd_syntax.proofs.TableRows.{all_at}
 use Rattle.xd_syntax.proofs.Trees.{tree_is, follows_at, parts_at}
 use Rattle.xd_syntax.proofs.PlacedTrees.{unplaced_at}
 use Rattle.xd_syntax.proofs.ExprTrees as E

@@ -35,7 +35,7 @@ is_less_weak = ranks_by ranks_total rank
 less_number : (m n : ℕ) → is_lt (nat_cmp m n) ≡ nat_lt m n
 less_number m n = grind (arith, nat_tests)
 
-less_places : (a b c d m n : ℕ) → is_lt (ordering_then (ordering_then (nat_cmp a b) (nat_cmp c d)) (nat_cmp m n))
+pub less_places : (a b c d m n : ℕ) → is_lt (ordering_then (ordering_then (nat_cmp a b) (nat_cmp c d)) (nat_cmp m n))
     ≡ ((nat_lt a b || (nat_eq a b && nat_lt c d)) || ((nat_eq a b && nat_eq c d) && nat_lt m n))
 less_places a b c d m n = grind (arith, nat_tests)
 

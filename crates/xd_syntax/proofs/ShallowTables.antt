@@ -1,6 +1,7 @@
 -- How deep the types of a table are that grows.
-use Rattle.std.proofs.Common.{◌≡◌, ◌≤◌, ◌<◌, ℕ, zero, suc, ◌⊎◌, Result, Ok, Err, IfOk, OnErr, List, [], ◌∷◌, ◌++◌, length, length-append, sym, ap, subst, ◌∙◌, inl, inr, arith}
+use Rattle.std.proofs.Common.{◌≡◌, ◌≤◌, ◌<◌, ℕ, Result, Ok, Err, IfOk, OnErr, List, [], ◌∷◌, ◌++◌, length, length-append, sym, ap, subst, ◌∙◌, inl, inr, arith}
 use Rattle.xd_base.specs.declared.Place.{Place}
+use Rattle.xd_doc.proofs.Numbers.{below_or_from}
 use Rattle.xd_syntax.specs.Tree.{Tree}
 use Rattle.xd_syntax.specs.TypeText.{depth}
 use Rattle.xd_syntax.specs.Table.{Row, Form, KeepsRows, tree_at, form_tree}
@@ -15,21 +16,14 @@ none_within limit rs i h k = absurd (omega arith)
 kept_depth : (limit : ℕ) (old new : List Row) (i : ℕ) → KeepsRows old new → i < length old → depth (tree_at old i) ≤ limit → depth (tree_at new i) ≤ limit
 kept_depth limit old new i k h l = subst (λ (T : Tree). depth T ≤ limit) (sym (ap (λ (rs : List Row). tree_at rs i) k.grown ∙ tree_kept old k.more i h)) l
 
--- below the bound or not
-side : (i n : ℕ) → (i < n) ⊎ (n ≤ i)
-side zero zero = inr (omega arith)
-side zero (suc n) = inl (omega arith)
-side (suc i) zero = inr (omega arith)
-side (suc i) (suc n) = elim (side i n) as (λ x. (suc i < suc n) ⊎ (suc n ≤ suc i)) [ inl h ↦ inl (omega arith) | inr h ↦ inr (omega arith) ]
-
 pub within_both : (limit : ℕ) (old middle new : List Row) → KeepsRows middle new → AddsWithin limit old middle → AddsWithin limit middle new → AddsWithin limit old new
 within_both limit old middle new k a b i h l =
-    elim (side i (length middle)) as (λ x. depth (tree_at new i) ≤ limit) [ inl below ↦ kept_depth limit middle new i k below (a i h below) | inr above ↦ b i above l ]
+    elim (below_or_from i (length middle)) as (λ x. depth (tree_at new i) ≤ limit) [ inl below ↦ kept_depth limit middle new i k below (a i h below) | inr above ↦ b i above l ]
 
 -- a shallow table stays so
 pub shallow_grown : (old new : List Row) → KeepsRows old new → AddsWithin nesting_limit old new → IsShallow old → IsShallow new
 shallow_grown old new k a s i l =
-    elim (side i (length old)) as (λ x. depth (tree_at new i) ≤ nesting_limit) [ inl below ↦ kept_depth nesting_limit old new i k below (s i below) | inr above ↦ a i above l ]
+    elim (below_or_from i (length old)) as (λ x. depth (tree_at new i) ≤ nesting_limit) [ inl below ↦ kept_depth nesting_limit old new i k below (s i below) | inr above ↦ a i above l ]
 
 pub weaker_within : (small limit : ℕ) (old new : List Row) → small ≤ limit → AddsWithin small old new → AddsWithin limit old new
 weaker_within small limit old new h a i l k = let d = a i l k in omega arith

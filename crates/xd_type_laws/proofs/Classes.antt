@@ -1,10 +1,10 @@
 -- Words, texts and elements as primaries.
 use Rattle.std.proofs.Common.{◌≡◌, ℕ, suc, ◌+◌, ◌-◌, ◌<◌, ◌≤◌, Bool, true, false, not, cond, List, [], ◌∷◌, ◌++◌, map, length, take, get_or, refl, ap, sym, subst, ◌∙◌, ◌⊎◌, inl, inr, arith, append_assoc, append-nil, length-append}
-use Rattle.std.specs.Prelude.{◌==◌, ◌&&◌, ◌||◌, slice_index, codes}
+use Rattle.std.specs.Prelude.{◌==◌, ◌&&◌, slice_index, codes}
 use Rattle.std.specs.List.{AllByRecursion}
 use Rattle.std.specs.Str.{bytes_eq}
 use Rattle.std.proofs.Math.Seq.{take-append_seam}
-use Rattle.std.proofs.lemmas.Bool.{and_parts}
+use Rattle.std.proofs.lemmas.Bool.{and_parts, or_parts}
 use Rattle.std.proofs.lemmas.Bool.Decides.{nat_tests}
 use Rattle.std.proofs.lemmas.Slice.Eq.{bytes_eq-Decides}
 use Rattle.xd_base.specs.declared.Place.{Place}
@@ -39,10 +39,6 @@ use Rattle.xd_type_laws.proofs.Levels.{Spells, prim, alt, behind_prim, behind_an
 not_taken : (b : Bool) (j k : Terminal) → b ≡ false → cond b j k ≡ k
 not_taken true j k e = cc
 not_taken false j k e = refl
-
-or_parts : (a b : Bool) → (a || b) ≡ false → (a ≡ false) × (b ≡ false)
-or_parts true b e = cc
-or_parts false b e = (refl, e)
 
 pub plain_word : (w : List ℕ) → has_word keywords w ≡ false → word_terminal w ≡ t.Word
 plain_word w h =

@@ -2,6 +2,7 @@
 use Rattle.std.proofs.Common.{◌≡◌, ◌≢◌, ℕ, suc, ◌+◌, ◌<◌, ◌≤◌, max, Bool, true, false, List, [], ◌∷◌, ◌++◌, map, flat_map, length, get_or, refl, ap, sym, subst, ◌∙◌, inl, inr, arith, append_assoc, append-nil}
 use Rattle.std.specs.Prelude.{◌==◌, ◌||◌, slice_index}
 use Rattle.std.specs.List.{AllByRecursion}
+use Rattle.std.proofs.lemmas.Bool.{or_right}
 use Rattle.xd_base.specs.declared.Place.{Place}
 use Rattle.xd_lex.specs.declared.Kind.{Kind}
 use Rattle.xd_lex.specs.declared.Kind.TheVariants as kinds
@@ -49,10 +50,6 @@ pub record Follows (ok : Terminal → Bool) (rest : List ℕ) : Type 0 where
   pub starts : Starts rest terminal
   pub may : ok terminal ≡ true
   pub ends : EndsWord rest
-
-or_right : (a b : Bool) → b ≡ true → (a || b) ≡ true
-or_right true b e = refl
-or_right false b e = e
 
 pub widely : (ok more : Terminal → Bool) → ((k : Terminal) → ok k ≡ true → more k ≡ true) → (rest : List ℕ) → Follows ok rest → Follows more rest
 widely ok more h rest f = record { terminal = f.terminal; starts = f.starts; may = h f.terminal f.may; ends = f.ends }

@@ -1,8 +1,9 @@
 -- Rows that are read from bytes, from any place on.
-use Rattle.std.proofs.Common.{◌≡◌, ◌≢◌, ℕ, suc, ◌<◌, List, [], ◌∷◌, ◌++◌, refl, sym, subst, ◌∙◌, append_assoc}
+use Rattle.std.proofs.Common.{◌≡◌, ◌≢◌, ℕ, suc, ◌<◌, List, [], ◌∷◌, ◌++◌, sym, subst, ◌∙◌, append_assoc}
 use Rattle.xd_base.specs.declared.Place.{Place}
 use Rattle.xd_lex.specs.declared.Kind.{Kind}
 use Rattle.xd_lex.specs.Tokens.{Lexeme, after, past, tokens_from}
+use Rattle.xd_lex.proofs.Skipped.{past-append}
 use Rattle.xd_grammar.specs.declared.grammar.Nonterminal.{Nonterminal}
 use Rattle.xd_grammar.specs.declared.grammar.Symbol.TheVariants.{Token, Opening, Closed, Unless, Part}
 use Rattle.xd_grammar.specs.declared.grammar.Terminal.{Terminal}
@@ -11,10 +12,6 @@ use Rattle.xd_grammar.specs.Text.{terminal_of, terminals_of, terminal_at}
 use Rattle.xd_parse_trees.specs.Values.{Value, token_of, value_of}
 use Rattle.xd_parse.proofs.Spelled.{MeansAt, ends_at, token_at, opening_at, closing_at, bar_at, part_at}
 use Rattle.xd_lex.proofs.Symbols.{IsToken}
-
-past_joined : (p : Place) (s r : List ℕ) → past p (s ++ r) ≡ past (past p s) r
-past_joined p [] r = refl
-past_joined p (b ∷ bs) r = past_joined (after p b) bs r
 
 -- before `rest`, the bytes s are read by the row from the place p on, where d levels are open
 -- before it and e after
@@ -26,7 +23,7 @@ read_end l d p rest = ends_at
 
 joined : (l d e : ℕ) (row : Row) (p : Place) (s r rest : List ℕ) (vs : List Value) → MeansAt l d row (tokens_from 0 p (s ++ (r ++ rest))) (tokens_from 0 (past (past p s) r) rest) e vs → Reads l d row e p (s ++ r) rest vs
 joined l d e row p s r rest vs m =
-    subst (λ q. MeansAt l d row (tokens_from 0 p ((s ++ r) ++ rest)) (tokens_from 0 q rest) e vs) (sym (past_joined p s r))
+    subst (λ q. MeansAt l d row (tokens_from 0 p ((s ++ r) ++ rest)) (tokens_from 0 q rest) e vs) (sym (past-append p s r))
     (subst (λ x. MeansAt l d row (tokens_from 0 p x) (tokens_from 0 (past (past p s) r) rest) e vs) (sym (append_assoc s r rest)) m)
 
 valued : (l d e : ℕ) (row : Row) (ls to : List Lexeme) (k : Kind) (x : List ℕ) (p : Place) (j : Terminal) (vs : List Value) → terminal_of k x ≡ j → MeansAt l d row ls to e vs →

@@ -1,8 +1,8 @@
 -- Nodes of a table are merged.
-use Rattle.std.proofs.Common.{◌≡◌, ℕ, zero, suc, ◌+◌, ◌<◌, arith, Bool, true, false, List, [], ◌∷◌, map, length, take, drop, get_or, refl, ap, sym, subst, ◌∙◌}
-use Rattle.std.specs.Prelude.{◌||◌}
+use Rattle.std.proofs.Common.{◌≡◌, ℕ, zero, suc, ◌+◌, ◌<◌, arith, true, false, List, [], ◌∷◌, map, length, take, drop, get_or, refl, ap, sym, subst, ◌∙◌}
 use Rattle.std.specs.List.{AllByRecursion}
 use Rattle.std.proofs.lemmas.List.{take-append-drop}
+use Rattle.std.proofs.lemmas.Bool.{or_parts}
 use Rattle.xd_syntax.specs.Tree.{Tree, seq_of, is_empty}
 use Rattle.xd_syntax.specs.TreeForms.{alt_of, is_seq, is_alt}
 use Rattle.xd_syntax.specs.PlacedTable.{the_start}
@@ -15,10 +15,6 @@ use Rattle.xd_syntax.specs.ProperTables.{IsTable}
 use Rattle.xd_syntax.specs.TypeText.{type_text}
 use Rattle.xd_type_laws.specs.ReadBackLaws.{IsMerged, NodesReadBack}
 use Rattle.xd_type_laws.proofs.TheLaw.{types_read_back, one_type}
-
-or_parts : (a b : Bool) → (a || b) ≡ false → (a ≡ false) × (b ≡ false)
-or_parts true b e = cc
-or_parts false b e = (refl, e)
 
 abbrev IsPart : Tree → Type 0
 IsPart T = (is_seq T ≡ false) × (is_empty T ≡ false) × IsMerged T

@@ -4,6 +4,7 @@ use Rattle.std.specs.List.{AllByRecursion}
 use Rattle.std.specs.Prelude.{codes, ◌==◌}
 use Rattle.std.proofs.lemmas.List.{length-map}
 use Rattle.std.proofs.lemmas.Bool.{eqb-true}
+use Rattle.xd_doc.proofs.Lists.{all_push, all_but_last}
 use Rattle.xd_syntax.specs.Tree.{Tree, Elem, Seq, Alt, Star, Plus, Opt, Val, seq_of, is_empty}
 use Rattle.xd_syntax.specs.TreeForms.{alt_of, size}
 use Rattle.xd_doc.specs.Classes.{LabelClass}
@@ -20,14 +21,6 @@ use Rattle.xd_type_text.specs.declared.level.Joined.TheVariants as joined
 use Rattle.xd_type_text.specs.declared.waiting.Waiting.{Waiting}
 use Rattle.xd_type_text.specs.declared.waiting.Waiting.TheVariants as waits
 use Rattle.xd_type_text.specs.Waiting.{level_of, inner_level, last_level, mark_of, parts_text, piece_text, waiting_text, PieceBelongs, parts_work, piece_work, work, IsOpened, PushesParts}
-
-pub all_push : {A : Type 0} (P : A → Type 0) (xs : List A) (x : A) → AllByRecursion P xs → P x → AllByRecursion P (xs ++ x ∷ [])
-all_push P [] x a p = (p, tt)
-all_push P (y ∷ ys) x a p = (a.0, all_push P ys x a.1 p)
-
-pub all_front : {A : Type 0} (P : A → Type 0) (xs : List A) (x : A) → AllByRecursion P (xs ++ x ∷ []) → AllByRecursion P xs × P x
-all_front P [] x a = (tt, a.0)
-all_front P (y ∷ ys) x a = let r = all_front P ys x a.1 in ((a.0, r.0), r.1)
 
 pub size_some : (T : Tree) → 0 < size T
 size_some (Elem c T) = omega arith
@@ -264,7 +257,7 @@ module _ (rows : List Row) where
   mark_opened b out new_out old e a = record { written = ap (λ l. l ++ waiting_text rows old) e ∙ append_assoc out (b ∷ []) (waiting_text rows old); belong = a; less = omega arith }
 
   pub popped : (stack front : List Waiting) (p q : Waiting) → stack ≡ front ++ p ∷ [] → p ≡ q → AllByRecursion (PieceBelongs rows) stack → AllByRecursion (PieceBelongs rows) front × PieceBelongs rows q
-  popped stack front p q e f a = let r = all_front (PieceBelongs rows) front p (subst (AllByRecursion (PieceBelongs rows)) e a) in (r.0, subst (PieceBelongs rows) f r.1)
+  popped stack front p q e f a = let r = all_but_last (PieceBelongs rows) front p (subst (AllByRecursion (PieceBelongs rows)) e a) in (r.0, subst (PieceBelongs rows) f r.1)
 
   pub turn_written : (all made new_made : List ℕ) (stack front new : List Waiting) (p q : Waiting) (m : ℕ) → stack ≡ front ++ p ∷ [] → p ≡ q → made ++ waiting_text rows stack ≡ all →
       IsOpened rows (piece_text rows q) m made new_made front new → new_made ++ waiting_text rows new ≡ all

@@ -1,5 +1,5 @@
 -- The type of the parameter of `main`.
-use Rattle.std.proofs.Common.{◌≡◌, Bool, true, false, cond, List, [], ◌∷◌, Some, subst}
+use Rattle.std.proofs.Common.{◌≡◌, Bool, true, false, cond, List, [], ◌∷◌, Some}
 use Rattle.std.specs.List.{AllByRecursion}
 use Rattle.std.specs.Str.{bytes_eq}
 use Rattle.xd_syntax.specs.Words.{main_word}
@@ -9,13 +9,8 @@ use Rattle.xd_syntax.specs.Kept.{FunctionStands}
 use Rattle.xd_syntax.specs.SoundTables.{main_parameter, only_parameter}
 use Rattle.xd_syntax.specs.Table.{Row}
 use Rattle.xd_syntax.specs.Types.{BelongsTo}
-use Rattle.xd_syntax.specs.declared.program.Param.{Param}
 use Rattle.xd_syntax.specs.declared.types.TypeId.{TypeId}
-
-only_belongs : (types : List Row) (ps : List Param) (id : TypeId) → AllByRecursion (λ (q : Param). BelongsTo types q.body) ps → only_parameter ps ≡ Some id → BelongsTo types id
-only_belongs types [] id a e = absurd (cc)
-only_belongs types (q ∷ []) id a e = let s : q.body ≡ id = cc in subst (BelongsTo types) s a.0
-only_belongs types (q ∷ (r ∷ qs)) id a e = absurd (cc)
+use Rattle.xd_syntax.proofs.KeptLaws.{only_belongs}
 
 -- the type of the parameter of `main` is a type of the program
 pub parameter_belongs : (types : List Row) (exprs : List ExprRow) (fs : List FunctionRow) (id : TypeId) → AllByRecursion (FunctionStands types exprs) fs → main_parameter fs ≡ Some id → BelongsTo types id

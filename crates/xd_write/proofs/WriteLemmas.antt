@@ -1,8 +1,7 @@
 -- On a document's text, as it is written.
-use Rattle.std.proofs.Common.{◌≡◌, ℕ, ◌+◌, ◌-◌, ◌<◌, ◌≤◌, Some, None, Result, Ok, Err, List, [], ◌∷◌, ◌++◌, refl, ap, sym, ◌∙◌, arith, append_assoc, drop, take, get_or, length, length-drop, add-one, drop-cons}
+use Rattle.std.proofs.Common.{◌≡◌, ℕ, ◌+◌, ◌-◌, ◌<◌, ◌≤◌, Some, None, List, [], ◌∷◌, ◌++◌, refl, ap, sym, ◌∙◌, arith, append_assoc, drop, take, get_or, length, length-drop, add-one, drop-cons}
 use Rattle.std.proofs.lemmas.List.{append-nil, take_more, get_or-drop}
 use Rattle.std.specs.List.{slice_range}
-use Rattle.std.specs.Result.{OnErr}
 use Rattle.xd_doc.specs.Document.{Document, empty, text, element, size, comma_before, items_text, escaped, escaped_all}
 use Rattle.xd_doc.specs.DocumentCode.{rest_of, content_of}
 use Rattle.xd_doc.specs.Stored.{document_at}
@@ -56,10 +55,6 @@ part_more all old now new piece left w p = record {
 -- the same, with the missing part written otherwise
 pub written_same : (all old now left left' : List ℕ) → IsWritten all old now left → left ≡ left' → IsWritten all old now left'
 written_same all old now left left' w e = record { prefix = w.prefix; appended = w.appended; whole = ap (λ xs. w.prefix ++ xs) (sym e) ∙ w.whole }
-
-pub on_err : {T E P : Type 0} (r : Result T E) → P → OnErr r P
-on_err (Ok x) p = tt
-on_err (Err e) p = p
 
 -- a text's bytes from a place on, with the first one apart
 pub escaped_all-drop : (s : List ℕ) (i : ℕ) → i < length s → escaped_all (drop i s) ≡ escaped (get_or s i 0) ++ escaped_all (drop (i + 1) s)

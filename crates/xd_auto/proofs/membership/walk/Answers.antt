@@ -1,8 +1,8 @@
 use Rattle.std.proofs.Common.{◌≡◌, ◌+◌, ◌≤◌, ◌<◌, [], ◌∷◌, ◌++◌, length, sym, ◌∙◌, arith, rules, vec_len}
+use Rattle.xd_doc.proofs.Results.{on_err}
 use Rattle.xd_auto.specs.Automaton.{accepts}
 use Rattle.xd_auto.specs.Kept.{words_of}
 use Rattle.xd_auto.specs.Membership.{IsFrame, MayWait, Walk, from_node}
-use Rattle.xd_auto.proofs.KeepsAnswerLemmas.{on_err}
 use Rattle.xd_auto.proofs.ProgressLemmas.{done_is, waits_is, fails_at_first}
 use Rattle.xd_auto.proofs.Walks.{frame, keeps_on, keeps_one, steps_settle, steps_wait, top_frame, walk_done, walk_waits}
 use Rattle.xd_auto.proofs.membership.walk.Goals as goal

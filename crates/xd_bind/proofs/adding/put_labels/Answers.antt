@@ -1,4 +1,5 @@
-use Rattle.xd_bind.proofs.ChangeLemmas.{changes_then, label_put}
+use Rattle.xd_empty.proofs.PartLemmas.{changes_trans}
+use Rattle.xd_bind.proofs.ChangeLemmas.{label_put}
 use Rattle.xd_bind.proofs.adding.put_labels.Goals as goal
 
 pub loop-step-preserved : goal.loop-step-preserved
@@ -7,5 +8,5 @@ loop-step-preserved c = record {
   finite = tt;
   put = label_put c.args.auto.now c.loop-step.auto' c.add_label_move.new.self c.args.at c.loop-step.yielded c.in-Some.step c.requires.at c.loop-step.invariant.put c.in_ok-add_label_move.ensures.ok
       c.in_ok-add_label_move.ensures.others;
-  others = changes_then c.args.at c.args.auto.now c.loop-step.auto' c.add_label_move.new.self c.loop-step.invariant.others c.in_ok-add_label_move.ensures.others;
+  others = changes_trans c.args.at c.args.auto.now c.loop-step.auto' c.add_label_move.new.self c.loop-step.invariant.others c.in_ok-add_label_move.ensures.others;
 }

@@ -1,6 +1,6 @@
 use Rattle.std.proofs.Common.{◌≡◌, false, ◌&&◌, ap, sym, ◌∙◌}
+use Rattle.xd_doc.proofs.Bools.{and_false}
 use Rattle.xd_auto.specs.Automaton.{moves_at}
-use Rattle.xd_boole.proofs.Bools.{and_false}
 use Rattle.xd_boole.proofs.DisjointLemmas.{disjoint_states, no_text_shared, none_shared}
 use Rattle.xd_boole.proofs.disjoint.+disjoint.Goals as goal
 use Rattle.xd_boole.proofs.disjoint.+disjoint.Goals.{are_disjoint_within-else-is_last-via-then-is_last+else-is_last-2, are_disjoint_within-else-is_last-via-else-is_last}

@@ -1,10 +1,10 @@
 use Rattle.std.proofs.Common.{◌≡◌, ◌++◌, ◌∷◌, [], true, ap, subst, ◌∙◌}
+use Rattle.xd_doc.proofs.Lists.{all_step}
 use Rattle.xd_auto.specs.declared.auto.LabelMove.{LabelMove}
 use Rattle.xd_boole.specs.declared.groups.MoveSide.{MoveSide}
 use Rattle.xd_boole.specs.Groups.{is_side, label_side}
 use Rattle.xd_boole.specs.Disjoint.{AreDisjointSides}
 use Rattle.xd_boole.proofs.DisjointLemmas.{move_disjoint, near_all, near_dropped, near_kept, near_none}
-use Rattle.xd_boole.proofs.Lists.{all_step}
 use Rattle.xd_boole.proofs.disjoint.near_moves.Goals as goal
 
 pub are_sides_disjoint-requires-clause-other : goal.are_sides_disjoint-requires-clause-other

@@ -1,5 +1,6 @@
 use Rattle.std.proofs.Common.{◌≡◌, Bool, not, true, ◌&&◌, length, ap, refl, ◌∙◌}
 use Rattle.xd_doc.specs.Classes.{class_has}
+use Rattle.xd_doc.proofs.Lists.{all_more}
 use Rattle.xd_auto.specs.declared.auto.State.{State}
 use Rattle.xd_auto.specs.declared.auto.TextMove.{TextMove}
 use Rattle.xd_auto.specs.Automaton.{accepts, has_text, moves_at}
@@ -10,7 +11,7 @@ use Rattle.xd_boole.specs.Points.{TextBelow}
 use Rattle.xd_boole.proofs.Bools.{and_where}
 use Rattle.xd_boole.proofs.DividesLemmas.{divided_by_more}
 use Rattle.xd_boole.proofs.MoveBelowLemmas.{texts_are}
-use Rattle.xd_boole.proofs.Lists.{all_at, all_map, any_walked}
+use Rattle.xd_boole.proofs.Lists.{all_at, any_walked}
 use Rattle.xd_boole.proofs.AnyAcceptsLemmas.{is_state_of}
 use Rattle.xd_boole.proofs.groups.text_groups_before.Goals as goal
 
@@ -37,5 +38,5 @@ returns c =
       sides = c.loop-other.invariant.sides (is_state a)
           (rw c.deref-other-items.ensures.value
           (c.in_ok-moves.ensures.inside (λ m. is_state a m.rest)
-          (λ s leads. all_map (TextBelow (length a)) (λ m. is_state a m.rest ≡ true) (moves_at a s).texts (λ m below. is_state_of a m.rest below) (texts_are a s (moves_at a s).texts refl leads))));
+          (λ s leads. all_more (TextBelow (length a)) (λ m. is_state a m.rest ≡ true) (moves_at a s).texts (λ m below. is_state_of a m.rest below) (texts_are a s (moves_at a s).texts refl leads))));
     }

@@ -1,11 +1,11 @@
 use Rattle.std.proofs.Common.{◌≡◌, Bool, ℕ, ◌<◌, List, All, length, take, filter, nat_lt, ap, sym, subst, ◌∙◌, ◌&&◌, ◌||◌}
 use Rattle.std.specs.List.{list_any}
 use Rattle.std.proofs.lemmas.List.Elements.{All-filter}
+use Rattle.xd_doc.proofs.SortedNames.{or_false}
 use Rattle.xd_auto.specs.declared.auto.State.{State}
 use Rattle.xd_auto.specs.Automaton.{moves_at}
 use Rattle.xd_boole.specs.Groups.{AllPass, passes_at}
 use Rattle.xd_boole.specs.Matching.{any_has}
-use Rattle.xd_boole.proofs.Bools.{or_nothing}
 use Rattle.xd_boole.proofs.MatchLemmas.{matching_before}
 use Rattle.xd_boole.proofs.matching.matching_before.Goals as goal
 
@@ -21,7 +21,7 @@ pub returns-then-place-eq0 : goal.returns-then-place-eq0
 returns-then-place-eq0 g c = record {
   taken = λ x had t.
       let others = list_any (λ (q : State). any_has g.M.Move.has x t (g.M.Move.moves_in (moves_at c.args.auto.now q))) c.args.states.now in
-      c.in_ok-made.ensures.taken x had t ∙ sym (or_nothing others)
+      c.in_ok-made.ensures.taken x had t ∙ sym (or_false others)
       ∙ ap (λ (n : ℕ). others || any_has g.M.Move.has x t (take n (g.M.Move.moves_in (moves_at c.args.auto.now c.args.own)))) (sym c.if-place-eq0.true);
   inside = c.in_ok-made.ensures.inside;
 }

@@ -1,12 +1,13 @@
 use Rattle.std.proofs.Common.{◌≡◌, Bool, take, get_or, ap, sym, subst, ◌∙◌, ◌&&◌, ◌||◌}
 use Rattle.std.specs.List.{list_any}
 use Rattle.std.proofs.lemmas.List.Folds.{list_any_more}
+use Rattle.xd_doc.proofs.Lists.{all_step}
 use Rattle.xd_auto.specs.declared.auto.State.{State}
 use Rattle.xd_auto.specs.Automaton.{IsState, moves_at}
 use Rattle.xd_boole.specs.Groups.{AllPass, passes_at}
 use Rattle.xd_boole.specs.Matching.{any_has}
 use Rattle.xd_boole.specs.Points.{state_at}
-use Rattle.xd_boole.proofs.Lists.{all_step, any_walked, at_itself}
+use Rattle.xd_boole.proofs.Lists.{any_walked, at_itself}
 use Rattle.xd_boole.proofs.MatchLemmas.{matching_tells}
 use Rattle.xd_boole.proofs.matching.moves_of.Goals as goal
 

@@ -1,8 +1,8 @@
 use Rattle.std.proofs.Common.{◌≡◌, ◌+◌, ◌∷◌, [], length, length-append, arith, ap, sym, subst, ◌∙◌}
 use Rattle.std.specs.List.{AllByRecursion}
+use Rattle.xd_doc.proofs.Lists.{all_push}
 use Rattle.xd_auto.specs.Automaton.{IsState}
 use Rattle.xd_boole.specs.Merging.{stand_in}
-use Rattle.xd_boole.proofs.Lists.{all_push}
 use Rattle.xd_boole.proofs.MergeLemmas.{all_themselves, itself_push}
 use Rattle.xd_boole.proofs.merging.each_itself.Goals as goal
 

@@ -7,11 +7,12 @@ use Rattle.xd_laws.specs.Guarded.{Guarded}
 use Rattle.xd_laws.proofs.SoundGuarded.{guarded}
 use Rattle.xd_pattern_runs.specs.Linear.{BindNothing}
 use Rattle.xd_pattern_runs.proofs.NamesBindNothing.{names_bind_nothing}
+use Rattle.xd_syntax.proofs.KeptLaws.{along}
 use Rattle.xd_patterns.specs.Bodies.{IsNodeOf, node_of}
 use Rattle.xd_patterns.specs.Compiler.{Serves}
 use Rattle.xd_patterns.specs.Tasks.{AreBodies, meanings}
 use Rattle.xd_patterns.specs.declared.compiler.PatternCompiler.{PatternCompiler}
-use Rattle.xd_patterns.proofs.ServesLemmas.{along, serves_bodies, serves_new}
+use Rattle.xd_patterns.proofs.ServesLemmas.{serves_bodies, serves_new}
 use Rattle.xd_calls_clauses.proofs.patterns.compiled.Goals as goal
 
 pub compile_pattern-requires-clause-guarded : goal.compile_pattern-requires-clause-guarded

@@ -6,7 +6,8 @@ use Rattle.xd_laws.specs.Guarded.{Guarded}
 use Rattle.xd_laws.proofs.SoundGuarded.{guarded}
 use Rattle.xd_moves.specs.Found.{AreDecidingMarks, AreOfTypes}
 use Rattle.xd_continuations.specs.Bodies.{AreBodies}
-use Rattle.xd_continuations.proofs.GrownTables.{along, bodies_stand}
+use Rattle.xd_syntax.proofs.KeptLaws.{along}
+use Rattle.xd_continuations.proofs.GrownTables.{bodies_stand}
 use Rattle.xd_continuations.proofs.Bodied.{are_bodies}
 use Rattle.xd_heads.proofs.KeepsStatesLemmas.{marks_decide}
 use Rattle.xd_calls_states.proofs.types.count_moves.Goals as goal

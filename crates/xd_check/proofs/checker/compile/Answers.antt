@@ -7,9 +7,9 @@ use Rattle.xd_syntax.specs.Types.{BelongsTo}
 use Rattle.xd_syntax.specs.declared.types.TypeId.{TypeId}
 use Rattle.xd_meaning.specs.KeptFaults.{AllPaired}
 use Rattle.xd_patterns.specs.CompiledProgram.{AcceptsType, type_states}
+use Rattle.xd_clauses.proofs.NumberedLemmas.{paired_length}
 use Rattle.xd_check.specs.Signed.{types_declared}
 use Rattle.xd_check.proofs.AreTypeStatesLemmas.{all_declared_there}
-use Rattle.xd_check.proofs.Lists.{paired_count}
 use Rattle.xd_check.proofs.checker.compile.Goals as goal
 
 pub with_types-requires : goal.with_types-requires
@@ -31,7 +31,7 @@ new-requires c =
     let is : c.deref.result.now ≡ types_declared p.functions = c.deref.ensures.value ∙ c.in_ok-types.ensures ∙ ap types_declared same in
     let R : TypeId → State → Type 0 = λ id s. AcceptsType (names_of (program_tree p)) p.types c.with_types.new.auto id s in
     let states = subst (AllPaired R (types_declared p.functions)) (sym c.types.ensures) (subst (λ ids. AllPaired R ids (type_states (c.in_ok-patterns.patterns).compiled)) is c.in_ok-patterns.ensures.types) in
-    sym (paired_count R (types_declared p.functions) c.types.result.now states)
+    sym (paired_length R (types_declared p.functions) c.types.result.now states)
 
 pub returns : goal.returns
 returns c =

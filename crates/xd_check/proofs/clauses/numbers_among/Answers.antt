@@ -2,8 +2,8 @@ use Rattle.std.proofs.Common.{ℕ, List, [], ◌∷◌, ◌++◌, get_or, take, 
 use Rattle.std.proofs.lemmas.List.{take_all, take_more}
 use Rattle.xd_syntax.specs.declared.exprs.Clause.{Clause}
 use Rattle.xd_meaning.specs.KeptFaults.{AllPaired}
+use Rattle.xd_patterns.proofs.Pairing.{paired_end}
 use Rattle.xd_check.specs.Ready.{HasNumber}
-use Rattle.xd_check.proofs.Lists.{paired_push}
 use Rattle.xd_check.proofs.clauses.numbers_among.Goals as goal
 
 pub loop-clause-preserved : goal.loop-clause-preserved
@@ -15,7 +15,7 @@ loop-clause-preserved c =
     let R = HasNumber c.args.patterns.now in
     subst (λ xs. AllPaired R xs c.push.new.self.items) (sym (take_more cs n none c.loop-clause-test.true))
     (subst (AllPaired R (take n cs ++ k ∷ [])) (sym c.in_ok-push-in-Some.ensures.items)
-    (paired_push R (take n cs) c.loop-clause.numbers.items k c.in-Some.number c.loop-clause.invariant c.in-Some.ensures))
+    (paired_end R (take n cs) c.loop-clause.numbers.items k c.in-Some.number c.loop-clause.invariant c.in-Some.ensures))
 
 pub returns : goal.returns
 returns c = subst (λ xs. AllPaired (HasNumber c.args.patterns.now) xs c.loop-clause.numbers.items) (take_all c.loop-clause.clause-index c.args.clauses.now c.loop-clause-test.false) c.loop-clause.invariant

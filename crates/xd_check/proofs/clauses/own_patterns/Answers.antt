@@ -6,8 +6,8 @@ use Rattle.xd_syntax.specs.declared.exprs.Clause.{Clause}
 use Rattle.xd_syntax.specs.declared.patterns.PatternId.{PatternId}
 use Rattle.xd_meaning.specs.KeptFaults.{AllPaired}
 use Rattle.xd_patterns.specs.CompiledProgram.{IsLinearPattern}
+use Rattle.xd_patterns.proofs.Pairing.{paired_end}
 use Rattle.xd_check.proofs.Collecting.{map_got, map_push, patterns_linear}
-use Rattle.xd_check.proofs.Lists.{paired_push}
 use Rattle.xd_check.proofs.clauses.own_patterns.Goals as goal
 
 pub loop-number-preserved : goal.loop-number-preserved
@@ -22,7 +22,7 @@ loop-number-preserved c =
       ids = c.in_ok-push.ensures.items ∙ ap (λ (is : List PatternId). is ++ k.pattern ∷ []) c.loop-number.invariant.ids ∙ sym (map_push (take n cs) k) ∙ ap (map (λ (j : Clause). j.pattern)) (sym more);
       numbers = subst (λ xs. AllPaired R xs c.push-in-loop-number.new.self.items) (sym more)
           (subst (AllPaired R (take n cs ++ k ∷ [])) (sym c.in_ok-push-2.ensures.items)
-          (paired_push R (take n cs) c.loop-number.numbers.items k n c.loop-number.invariant.numbers (map_got cs n none c.loop-number-test.true)));
+          (paired_end R (take n cs) c.loop-number.numbers.items k n c.loop-number.invariant.numbers (map_got cs n none c.loop-number-test.true)));
     }
 
 pub alone-requires : goal.alone-requires

@@ -1,9 +1,9 @@
+use Rattle.xd_doc.proofs.Options.{some_holds}
 use Rattle.xd_check.specs.declared.lines.Finding.TheVariants.{NotExhaustive}
 use Rattle.xd_doc.specs.declared.store.Seq.{Seq}
 use Rattle.xd_doc.specs.Stored.{document_at}
 use Rattle.xd_doc.specs.StoredSeq.{BelongsTo}
 use Rattle.xd_doc.specs.Document.{Document}
-use Rattle.xd_check.proofs.Lists.{if_some}
 use Rattle.std.proofs.lemmas.Result.{IfOk-from_err}
 use Rattle.std.proofs.Common.{Ok, ap, refl, List}
 use Rattle.xd_doc.specs.LeastUpTo.{IsLeastUpTo}
@@ -22,8 +22,8 @@ returns-in_ok-push c =
           let ds : List Document = c.accepted_document.new.store in
           let seq : Seq = c.in-Some.document in
           let f = c.in_ok-found.ensures in
-          let there : BelongsTo ds seq = if_some (BelongsTo ds) c.in_ok-found.found seq c.in-Some.is f.belongs in
-          let taken = if_some (λ q. IsLeastUpTo size_limit (Accepted c.args.auto.now c.args.arriving) (document_at ds q)) c.in_ok-found.found seq c.in-Some.is f.least in
+          let there : BelongsTo ds seq = some_holds (BelongsTo ds) c.in_ok-found.found seq c.in-Some.is f.belongs in
+          let taken = some_holds (λ q. IsLeastUpTo size_limit (Accepted c.args.auto.now c.args.arriving) (document_at ds q)) c.in_ok-found.found seq c.in-Some.is f.least in
           adds_where ds c.args.place (Accepted c.args.auto.now c.args.arriving) c.args.lines.now.items c.push.new.self.items (NotExhaustive seq) seq c.in_ok-push.ensures.items there refl there taken;
       known =
           let e = c.in_ok-found.ensures in

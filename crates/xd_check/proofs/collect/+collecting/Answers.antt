@@ -1,6 +1,7 @@
 use borrow.Author.Count.{falls}
 use Rattle.std.proofs.Common.{◌≡◌, ℕ, ◌+◌, ◌*◌, ◌<◌, arith, List, length, get_or, ap, sym, subst, ◌∙◌}
 use Rattle.std.specs.List.{AllByRecursion}
+use Rattle.xd_doc.proofs.Lists.{all_push}
 use Rattle.xd_syntax.specs.ExpressionTable.{ExprPartsBelow, ExprRow, PatternsBelong, ShapePatternsBelong, call_shape, elem_shape, match_shape, seq_shape}
 use Rattle.xd_syntax.specs.Exprs.{clause_numbers, expr_numbers, shape_of}
 use Rattle.xd_syntax.specs.Kept.{ProgramTable}
@@ -8,7 +9,6 @@ use Rattle.xd_syntax.specs.declared.exprs.Clause.{Clause}
 use Rattle.xd_syntax.specs.declared.exprs.ExprId.{ExprId}
 use Rattle.xd_patterns.specs.CompiledProgram.{IsLinearPattern}
 use Rattle.xd_check.specs.Ready.{CanBeWalked}
-use Rattle.xd_check.proofs.Lists.{all_push}
 use Rattle.xd_check.proofs.Loops.{bodies, bodies_below, ceiling, ceiling_again, ceiling_within}
 use Rattle.xd_check.proofs.Walkable.{expr_is, walk_arguments, walk_clauses, walk_content, walk_parts, walk_scrutinee}
 use Rattle.xd_check.proofs.Collecting.{body_below, clause_there, part_below, part_there}

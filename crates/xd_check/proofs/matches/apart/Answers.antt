@@ -1,9 +1,9 @@
 use Rattle.std.proofs.Common.{ℕ, [], ◌∷◌, ◌++◌, get_or, take, refl, sym, subst}
 use Rattle.std.specs.List.{AllZip}
 use Rattle.std.proofs.lemmas.List.{take_more}
+use Rattle.xd_doc.proofs.Lists.{zip_push}
 use Rattle.xd_check.specs.Scrutinees.{StandsAlone}
 use Rattle.xd_check.specs.declared.matches.MetMatch.{MetMatch}
-use Rattle.xd_check.proofs.MetOrder.{zip_push}
 use Rattle.xd_check.proofs.matches.apart.Goals as goal
 
 pub loop-found-preserved : goal.loop-found-preserved

@@ -1,6 +1,6 @@
-use Rattle.xd_check.proofs.GrowsLemmas.{keeps_same}
 use Rattle.std.proofs.lemmas.Result.{IfOk-from_err}
 use Rattle.std.proofs.Common.{sym, subst}
+use Rattle.xd_doc.proofs.StoredLemmas.{Keeps-same}
 use Rattle.xd_syntax.specs.Kept.{ProgramTable, program_tree}
 use Rattle.xd_syntax.specs.Program.{ProgramTree}
 use Rattle.xd_check.specs.Outcome.{AreTold}
@@ -30,7 +30,7 @@ returns-in_err-checker c =
     let r = c.from_residual.result in
     record {
       outcome = IfOk-from_err r _ e;
-      keeps = keeps_same c.args.store.now;
+      keeps = Keeps-same c.args.store.now;
     }
 
 pub returns-in_err-told : goal.returns-in_err-told

@@ -3,10 +3,10 @@ use Rattle.std.proofs.lemmas.List.{drop_all, drop_more, nil_from_length, take_al
 use Rattle.xd_auto.specs.declared.auto.State.{State}
 use Rattle.xd_syntax.specs.FunctionRow.{FunctionRow}
 use Rattle.xd_meaning.specs.KeptFaults.{AllPaired}
+use Rattle.xd_patterns.proofs.Pairing.{paired_end}
 use Rattle.xd_check.specs.declared.signatures.Signature.{Signature}
 use Rattle.xd_check.specs.Signed.{HasParameters, states_signed, types_declared}
 use Rattle.xd_check.proofs.AreTypeStatesLemmas.{declared_count, signed_push}
-use Rattle.xd_check.proofs.Lists.{paired_push}
 use Rattle.xd_check.proofs.signatures.signatures_of.Goals as goal
 
 pub loop-function-init : goal.loop-function-init
@@ -62,7 +62,7 @@ loop-function-preserved c =
       count = ap length c.behind-left.ensures ∙ (let e : length after ≡ length (types_declared rest) = omega arith in e);
       parameters = subst (λ xs. AllPaired HasParameters xs c.push.new.self.items) (sym (take_more fs n f c.loop-function-test.true))
           (subst (AllPaired HasParameters (take n fs ++ get_or fs n f ∷ [])) (sym c.in_ok-push.ensures.items)
-          (paired_push HasParameters (take n fs) rows (get_or fs n f) g c.loop-function.invariant.parameters
+          (paired_end HasParameters (take n fs) rows (get_or fs n f) g c.loop-function.invariant.parameters
           (c.in_ok-first_signature.ensures.parameters ∙ many ∙ ap (λ (x : FunctionRow). length x.params) c.function-item.is)));
     }
 

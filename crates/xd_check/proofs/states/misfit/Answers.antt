@@ -1,6 +1,8 @@
+use Rattle.std.proofs.lemmas.Bool.{false_from_ne_true}
 use Rattle.xd_doc.specs.Document.{Document}
 use Rattle.xd_doc.specs.LeastUpTo.{IsLeastUpTo}
 use Rattle.xd_doc.specs.Stored.{document_at}
+use Rattle.xd_doc.proofs.StoredLemmas.{Keeps-trans}
 use Rattle.xd_auto.specs.Automaton.{Automaton, accepts}
 use Rattle.xd_auto.specs.declared.auto.State.{State}
 use Rattle.std.specs.Result.{IsErr}
@@ -12,7 +14,7 @@ use Rattle.xd_least.specs.Least.{size_limit}
 use Rattle.xd_apart.specs.Apart.{IsApart}
 use Rattle.xd_apart.proofs.ApartLemmas.{up_to_equal}
 use Rattle.xd_check.specs.Walked.{IsMisfit}
-use Rattle.xd_check.proofs.GrowsLemmas.{grows_none, keeps_then}
+use Rattle.xd_check.proofs.GrowsLemmas.{grows_none}
 use Rattle.xd_check.proofs.IsKnownLemmas.{known_decided, known_kept}
 use Rattle.xd_check.proofs.states.misfit.Goals as goal
 
@@ -25,10 +27,6 @@ not_some r x p q = absurd (cc)
 
 one_only : (P : State → Type 0) (s : State) → SomeOf P (s ∷ []) → P s
 one_only P s m = elim m.1 [ inl y ↦ subst P (sym y) m.2 | inr y ↦ absurd y ]
-
-false_if : (b : Bool) → (b ≡ true → ⊥) → b ≡ false
-false_if true n = absurd (n refl)
-false_if false n = refl
 
 pub returns-in_err-decide : goal.returns-in_err-decide
 returns-in_err-decide c =
@@ -55,7 +53,7 @@ returns-in-Included c =
 
 -- what separates the states, as the checker says it
 misfit_least : (a : Automaton) (s t : State) (d : Document) → IsLeastUpTo size_limit (IsApart a s t) d → IsLeastUpTo size_limit (IsMisfit a s t) d
-misfit_least a s t d h = up_to_equal size_limit (IsApart a s t) (IsMisfit a s t) d (λ e k. (k.accepted, λ y. not_both (accepts a e t) y k.refused)) (λ e m. record { accepted = m.0; refused = false_if (accepts a e t) m.1 }) h
+misfit_least a s t d h = up_to_equal size_limit (IsApart a s t) (IsMisfit a s t) d (λ e k. (k.accepted, λ y. not_both (accepts a e t) y k.refused)) (λ e m. record { accepted = m.0; refused = false_from_ne_true (accepts a e t) m.1 }) h
   where
     not_both : (b : Bool) → b ≡ true → b ≡ false → ⊥
     not_both b x y = (let no : true ≡ false = sym x ∙ y in cc)
@@ -69,7 +67,7 @@ least_apart-requires c =
       belongs = v.belongs;
       apart = record {
         accepted = v.separates.accepted;
-        refused = false_if (accepts c.args.auto.now (document_at c.decide.new.store c.in-Separated.found) c.args.wanted) (v.separates.refused c.args.wanted (inl refl));
+        refused = false_from_ne_true (accepts c.args.auto.now (document_at c.decide.new.store c.in-Separated.found) c.args.wanted) (v.separates.refused c.args.wanted (inl refl));
       };
     }
 
@@ -84,7 +82,7 @@ returns-in_ok-document-in-Separated c =
       known =
           known_kept a a c.decide.new.store c.least_apart.new.store (record c.args.known.now { table = c.decide.new.table }) (grows_none a) k.keeps
           (known_decided a c.args.store.now c.decide.new.store c.args.known.now c.decide.new.table c.decide.ensures.keeps c.requires.known c.decide.ensures.stands);
-      keeps = keeps_then c.args.store.now c.decide.new.store c.least_apart.new.store c.decide.ensures.keeps k.keeps;
+      keeps = Keeps-trans c.args.store.now c.decide.new.store c.least_apart.new.store c.decide.ensures.keeps k.keeps;
     }
 
 pub returns-in_err-document-in-Separated : goal.returns-in_err-document-in-Separated
@@ -99,7 +97,7 @@ returns-in_err-document-in-Separated c =
       known =
           known_kept a a c.decide.new.store c.least_apart.new.store (record c.args.known.now { table = c.decide.new.table }) (grows_none a) c.least_apart.ensures.keeps
           (known_decided a c.args.store.now c.decide.new.store c.args.known.now c.decide.new.table c.decide.ensures.keeps c.requires.known c.decide.ensures.stands);
-      keeps = keeps_then c.args.store.now c.decide.new.store c.least_apart.new.store c.decide.ensures.keeps c.least_apart.ensures.keeps;
+      keeps = Keeps-trans c.args.store.now c.decide.new.store c.least_apart.new.store c.decide.ensures.keeps c.least_apart.ensures.keeps;
     }
 
 pub decide-requires : goal.decide-requires

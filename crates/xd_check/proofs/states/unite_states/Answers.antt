@@ -2,10 +2,10 @@ use Rattle.std.proofs.lemmas.Result.{IfOk-from_err}
 use Rattle.std.proofs.Common.{◌≡◌, ◌↔◌, ◌⊎◌, inl, inr, true, false, Bool, ◌||◌, refl, sym, subst, List, [], ◌∷◌}
 use Rattle.std.specs.List.{AllByRecursion, list_any}
 use Rattle.xd_doc.specs.Document.{Document}
+use Rattle.xd_doc.proofs.Lists.{all_get}
 use Rattle.xd_auto.specs.declared.auto.State.{State}
 use Rattle.xd_auto.specs.Automaton.{Automaton, IsState, accepts}
 use Rattle.xd_check.specs.Walked.{AcceptedBySome}
-use Rattle.xd_check.proofs.Lists.{all_at}
 use Rattle.xd_check.proofs.states.unite_states.Goals as goal
 
 or_cases : (x y : Bool) → ((x || y) ≡ true) ↔ ((x ≡ true) ⊎ (y ≡ true))
@@ -22,7 +22,7 @@ some_accepts a (s ∷ ss) d =
     )
 
 pub unite-requires : goal.unite-requires
-unite-requires c = λ k d lt. all_at (IsState c.args.auto.now) c.deref.result.now k d (subst (AllByRecursion (IsState c.args.auto.now)) (sym c.deref.ensures.value) c.requires) lt
+unite-requires c = λ k d lt. all_get (IsState c.args.auto.now) c.deref.result.now k d (subst (AllByRecursion (IsState c.args.auto.now)) (sym c.deref.ensures.value) c.requires) lt
 
 pub returns : goal.returns
 returns c =

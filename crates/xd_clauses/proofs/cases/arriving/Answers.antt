@@ -1,12 +1,12 @@
 use Rattle.std.proofs.Common.{◌≡◌, ◌↔◌, ◌+◌, ◌++◌, ◌∷◌, [], Vec, List, length, length-append, take, arith, ap, sym, subst, ◌∙◌}
 use Rattle.std.proofs.Math.Seq.{take-append_seam}
 use Rattle.std.specs.List.{AllByRecursion}
+use Rattle.xd_doc.proofs.Lists.{all_push}
 use Rattle.xd_syntax.specs.Kept.{program_tree}
 use Rattle.xd_syntax.specs.May.{NoneTakes}
 use Rattle.xd_syntax.specs.Program.{names_of}
 use Rattle.xd_syntax.specs.declared.patterns.PatternId.{PatternId}
 use Rattle.xd_patterns.specs.CompiledProgram.{IsLinearPattern}
-use Rattle.xd_boole.proofs.Lists.{all_push}
 use Rattle.xd_boole.proofs.MoveBelowLemmas.{all_recursion}
 use Rattle.xd_clauses.specs.Cases.{placed_patterns}
 use Rattle.xd_clauses.specs.Clauses.{Accepted}

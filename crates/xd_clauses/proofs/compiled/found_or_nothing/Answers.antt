@@ -1,6 +1,6 @@
 use Rattle.std.proofs.Common.{sym, ap, ◌∙◌}
 use Rattle.xd_points.specs.Placing.{accepts_at}
-use Rattle.xd_clauses.proofs.Givens.{new_accepts_nothing}
+use Rattle.xd_points.proofs.OperationLemmas.{new_accepts_nothing}
 use Rattle.xd_clauses.proofs.compiled.found_or_nothing.Goals as goal
 
 pub returns-in_ok-add_state-in-None-clause-exact : goal.returns-in_ok-add_state-in-None-clause-exact

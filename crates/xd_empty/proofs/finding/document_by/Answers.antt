@@ -1,6 +1,7 @@
 use Rattle.std.proofs.Common.{sym, subst}
+use Rattle.xd_doc.proofs.Options.{none_from}
 use Rattle.xd_empty.specs.Inhabited.{LacksOne}
-use Rattle.xd_empty.proofs.SearchLemmas.{element_witness, none_from, text_lacks, text_witness}
+use Rattle.xd_empty.proofs.SearchLemmas.{element_witness, text_lacks, text_witness}
 use Rattle.xd_empty.proofs.UsesLemmas.{parts-element}
 use Rattle.xd_empty.proofs.finding.document_by.Goals as goal
 

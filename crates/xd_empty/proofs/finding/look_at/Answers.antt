@@ -1,8 +1,9 @@
 use Rattle.std.proofs.Common.{◌≡◌, ◌∙◌, Ok, None, length, get_or, ap, sym, arith}
+use Rattle.xd_doc.proofs.Options.{none_from}
 use Rattle.xd_auto.specs.Automaton.{state_number}
 use Rattle.xd_empty.specs.Inhabited.{IsUnknown}
 use Rattle.xd_empty.specs.Uses.{lists_by_state, user}
-use Rattle.xd_empty.proofs.SearchLemmas.{none_from, not_unknown, searching_found, searching_keeps, searching_next, steps_kept, user_there}
+use Rattle.xd_empty.proofs.SearchLemmas.{not_unknown, searching_found, searching_keeps, searching_next, steps_kept, user_there}
 use Rattle.xd_empty.proofs.UsesLemmas.{length-lists}
 use Rattle.xd_empty.proofs.finding.look_at.Goals as goal
 

@@ -1,8 +1,9 @@
 use Rattle.std.proofs.Common.{◌≡◌, ◌+◌, ◌<◌, arith, length, get_or, ap, sym, subst, ◌∙◌, length-append}
 use Rattle.std.specs.List.{AllByRecursion}
 use Rattle.xd_syntax.specs.Exprs.{expr_numbers}
+use Rattle.xd_syntax.proofs.ExprTrees.{count_numbers}
 use Rattle.xd_eval.specs.Machine.{part_numbers}
-use Rattle.xd_eval.proofs.Resumed.{part_below, count_numbers}
+use Rattle.xd_eval.proofs.Resumed.{part_below}
 use Rattle.xd_eval.proofs.resuming.take_value.Goals as goal
 
 pub returns-clause-next : goal.returns-clause-next

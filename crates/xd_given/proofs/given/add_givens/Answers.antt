@@ -1,12 +1,12 @@
 use Rattle.std.proofs.Common.{◌<◌, ◌∙◌, ap, sym, refl, Some, [], ◌∷◌, arith, length, length-append}
 use Rattle.std.proofs.lemmas.Option.{slice_get_read}
+use Rattle.xd_auto.proofs.ExtendsLemmas.{extends_then}
 use Rattle.xd_bind.specs.declared.tracks.Given.{Given}
 use Rattle.xd_points.proofs.StayLaws.{serving_stays}
 use Rattle.xd_points.proofs.TableLemmas.{tables_stay}
 use Rattle.xd_given.specs.Traced.{IsGivenAtOf}
 use Rattle.xd_given.proofs.StayLemmas.{accepts_as, given_still, known_still, means_still, places_still}
 use Rattle.xd_given.proofs.Elements.{elements_more}
-use Rattle.xd_bind.proofs.Automata.{extends_trans}
 use Rattle.xd_given.proofs.given.add_givens.Goals as goal
 
 pub given_of-requires-clause-table : goal.given_of-requires-clause-table
@@ -45,7 +45,7 @@ loop-number-preserved g c =
           (λ d. means_still a old p t start d c.len-states.ensures.closed c.loop-number.invariant.extends c.requires.table c.requires.start) (λ d. refl) c.in_ok-state.ensures.given;
     } in
     record {
-      extends = extends_trans a old new c.loop-number.invariant.extends more;
+      extends = extends_then a old new c.loop-number.invariant.extends more;
       count = omega (arith, ap length c.in_ok-push.ensures.items, length-append c.loop-number.givens.items (one ∷ []), c.loop-number.invariant.count);
       each = rw c.in_ok-push.ensures.items
           (elements_more (IsGivenAtOf a p t owned start vs new) c.loop-number.givens.items n one c.loop-number.invariant.count
@@ -53,10 +53,10 @@ loop-number-preserved g c =
     }
 
 pub returns-in_err-state-clause-extends : goal.returns-in_err-state-clause-extends
-returns-in_err-state-clause-extends g c = extends_trans c.args.auto.now c.loop-number.auto' c.given_of.new.auto c.loop-number.invariant.extends c.in_err-state.ensures.extends
+returns-in_err-state-clause-extends g c = extends_then c.args.auto.now c.loop-number.auto' c.given_of.new.auto c.loop-number.invariant.extends c.in_err-state.ensures.extends
 
 pub returns-in_err-variable-clause-extends : goal.returns-in_err-variable-clause-extends
-returns-in_err-variable-clause-extends g c = extends_trans c.args.auto.now c.loop-number.auto' c.given_of.new.auto c.loop-number.invariant.extends c.in_ok-state.ensures.extends
+returns-in_err-variable-clause-extends g c = extends_then c.args.auto.now c.loop-number.auto' c.given_of.new.auto c.loop-number.invariant.extends c.in_ok-state.ensures.extends
 
 pub returns-in_err-push-clause-extends : goal.returns-in_err-push-clause-extends
-returns-in_err-push-clause-extends g c = extends_trans c.args.auto.now c.loop-number.auto' c.given_of.new.auto c.loop-number.invariant.extends c.in_ok-state.ensures.extends
+returns-in_err-push-clause-extends g c = extends_then c.args.auto.now c.loop-number.auto' c.given_of.new.auto c.loop-number.invariant.extends c.in_ok-state.ensures.extends

@@ -1,11 +1,11 @@
 use Rattle.std.proofs.Common.{◌∙◌, sym, arith}
 use Rattle.xd_doc.proofs.StoredLemmas.{Keeps-same}
+use Rattle.xd_auto.proofs.ExtendsLemmas.{extends_then}
 use Rattle.xd_least.proofs.KnownLemmas.{stays_known}
 use Rattle.xd_points.proofs.StayLaws.{serving_stays}
 use Rattle.xd_points.proofs.TableLemmas.{tables_stay}
 use Rattle.xd_given.proofs.GivenLemmas.{left_state, shared}
 use Rattle.xd_given.proofs.StayLemmas.{givens_alone, means_still}
-use Rattle.xd_bind.proofs.Automata.{extends_trans}
 use Rattle.xd_given.proofs.given.given_alone.Goals as goal
 
 pub find-requires-clause-table : goal.find-requires-clause-table
@@ -15,7 +15,7 @@ pub learn-requires : goal.learn-requires
 learn-requires g c = stays_known c.args.known.now c.args.auto.now c.find.new.auto c.args.store.now c.args.store.now c.in_ok-start.ensures.extends (Keeps-same c.args.store.now) c.requires.known
 
 pub returns-in_err-places-clause-extends : goal.returns-in_err-places-clause-extends
-returns-in_err-places-clause-extends g c = extends_trans c.args.auto.now c.find.new.auto c.places_of.new.auto c.in_ok-start.ensures.extends c.in_err-places.ensures.extends
+returns-in_err-places-clause-extends g c = extends_then c.args.auto.now c.find.new.auto c.places_of.new.auto c.in_ok-start.ensures.extends c.in_err-places.ensures.extends
 
 pub add_givens-requires-clause-table : goal.add_givens-requires-clause-table
 add_givens-requires-clause-table g c = tables_stay c.find.new.auto c.places_of.new.auto c.args.patterns.now c.find.new.self c.len-length.ensures.closed c.in_ok-places.ensures.extends c.in_ok-start.ensures.table
@@ -23,7 +23,7 @@ add_givens-requires-clause-table g c = tables_stay c.find.new.auto c.places_of.n
 pub add_givens-requires-clause-patterns : goal.add_givens-requires-clause-patterns
 add_givens-requires-clause-patterns g c =
     serving_stays c.args.auto.now c.places_of.new.auto c.args.patterns.now c.len-states.ensures.closed
-    (extends_trans c.args.auto.now c.find.new.auto c.places_of.new.auto c.in_ok-start.ensures.extends c.in_ok-places.ensures.extends) c.requires.patterns
+    (extends_then c.args.auto.now c.find.new.auto c.places_of.new.auto c.in_ok-start.ensures.extends c.in_ok-places.ensures.extends) c.requires.patterns
 
 pub add_givens-requires-clause-known : goal.add_givens-requires-clause-known
 add_givens-requires-clause-known g c = record {
@@ -37,8 +37,8 @@ add_givens-requires-clause-places g c = rw c.deref.ensures.value (c.in_ok-places
 
 pub returns-in_err-givens-clause-extends : goal.returns-in_err-givens-clause-extends
 returns-in_err-givens-clause-extends g c =
-    extends_trans c.args.auto.now c.find.new.auto c.add_givens.new.auto c.in_ok-start.ensures.extends
-    (extends_trans c.find.new.auto c.places_of.new.auto c.add_givens.new.auto c.in_ok-places.ensures.extends c.in_err-givens.ensures.extends)
+    extends_then c.args.auto.now c.find.new.auto c.add_givens.new.auto c.in_ok-start.ensures.extends
+    (extends_then c.find.new.auto c.places_of.new.auto c.add_givens.new.auto c.in_ok-places.ensures.extends c.in_err-givens.ensures.extends)
 
 pub returns-clause-shared : goal.returns-clause-shared
 returns-clause-shared g c =
@@ -57,13 +57,13 @@ returns-clause-givens g c =
 
 pub returns-clause-extends : goal.returns-clause-extends
 returns-clause-extends g c =
-    extends_trans c.args.auto.now c.find.new.auto c.add_givens.new.auto c.in_ok-start.ensures.extends
-    (extends_trans c.find.new.auto c.places_of.new.auto c.add_givens.new.auto c.in_ok-places.ensures.extends c.in_ok-givens.ensures.extends)
+    extends_then c.args.auto.now c.find.new.auto c.add_givens.new.auto c.in_ok-start.ensures.extends
+    (extends_then c.find.new.auto c.places_of.new.auto c.add_givens.new.auto c.in_ok-places.ensures.extends c.in_ok-givens.ensures.extends)
 
 pub returns-clause-known : goal.returns-clause-known
 returns-clause-known g c =
     stays_known c.learn.new.self c.find.new.auto c.add_givens.new.auto c.learn.new.store c.learn.new.store
-    (extends_trans c.find.new.auto c.places_of.new.auto c.add_givens.new.auto c.in_ok-places.ensures.extends c.in_ok-givens.ensures.extends) (Keeps-same c.learn.new.store) c.in_ok-learn.ensures.knows
+    (extends_then c.find.new.auto c.places_of.new.auto c.add_givens.new.auto c.in_ok-places.ensures.extends c.in_ok-givens.ensures.extends) (Keeps-same c.learn.new.store) c.in_ok-learn.ensures.knows
 
 pub returns-in_err-places-clause-known : goal.returns-in_err-places-clause-known
 returns-in_err-places-clause-known g c =
@@ -72,7 +72,7 @@ returns-in_err-places-clause-known g c =
 pub returns-in_err-givens-clause-known : goal.returns-in_err-givens-clause-known
 returns-in_err-givens-clause-known g c =
     stays_known c.learn.new.self c.find.new.auto c.add_givens.new.auto c.learn.new.store c.learn.new.store
-    (extends_trans c.find.new.auto c.places_of.new.auto c.add_givens.new.auto c.in_ok-places.ensures.extends c.in_err-givens.ensures.extends) (Keeps-same c.learn.new.store) c.in_ok-learn.ensures.knows
+    (extends_then c.find.new.auto c.places_of.new.auto c.add_givens.new.auto c.in_ok-places.ensures.extends c.in_err-givens.ensures.extends) (Keeps-same c.learn.new.store) c.in_ok-learn.ensures.knows
 
 pub returns-in_err-start-clause-known : goal.returns-in_err-start-clause-known
 returns-in_err-start-clause-known g c = stays_known c.args.known.now c.args.auto.now c.find.new.auto c.args.store.now c.args.store.now c.in_err-start.ensures.extends (Keeps-same c.args.store.now) c.requires.known

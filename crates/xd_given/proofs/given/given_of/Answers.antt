@@ -1,9 +1,9 @@
 use Rattle.std.proofs.Common.{◌≡◌, ◌∙◌, List, map, ap, arith}
 use Rattle.xd_auto.specs.declared.auto.State.{State}
+use Rattle.xd_auto.proofs.ExtendsLemmas.{extends_then}
 use Rattle.xd_given.specs.Blocks.{there}
 use Rattle.xd_given.specs.Outline.{leaf_free}
 use Rattle.xd_given.proofs.GivenLemmas.{ahead_points, drawn_count, drawn_leads, given_here, places_belong, states_belong}
-use Rattle.xd_bind.proofs.Automata.{extends_trans}
 use Rattle.xd_given.proofs.given.given_of.Goals as goal
 
 pub outline-requires-clause-count : goal.outline-requires-clause-count
@@ -42,10 +42,10 @@ union_of-requires g c =
     (states_belong c.add_blocks.new.auto o.ahead.items blocks c.in_ok-states.states.items is (λ i d lt. let below = points i d lt in omega (arith, below, c.in_ok-blocks.ensures.blocks.count)) c.in_ok-blocks.ensures.belong)
 
 pub returns-in_err-first-clause-extends : goal.returns-in_err-first-clause-extends
-returns-in_err-first-clause-extends g c = extends_trans c.args.auto.now c.add_blocks.new.auto c.union_of.new.auto c.in_ok-blocks.ensures.extends c.in_err-first.ensures.extends
+returns-in_err-first-clause-extends g c = extends_then c.args.auto.now c.add_blocks.new.auto c.union_of.new.auto c.in_ok-blocks.ensures.extends c.in_err-first.ensures.extends
 
 pub returns-clause-extends : goal.returns-clause-extends
-returns-clause-extends g c = extends_trans c.args.auto.now c.add_blocks.new.auto c.union_of.new.auto c.in_ok-blocks.ensures.extends c.in_ok-first.ensures.extends
+returns-clause-extends g c = extends_then c.args.auto.now c.add_blocks.new.auto c.union_of.new.auto c.in_ok-blocks.ensures.extends c.in_ok-first.ensures.extends
 
 pub returns-clause-given : goal.returns-clause-given
 returns-clause-given g c =

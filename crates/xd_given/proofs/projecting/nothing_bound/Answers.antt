@@ -1,8 +1,8 @@
 use Rattle.std.proofs.Common.{◌≡◌, ◌<◌, ◌∙◌, ap, sym, refl, Some, [], ◌∷◌, arith, length, length-append}
 use Rattle.std.proofs.lemmas.Option.{slice_get_read}
+use Rattle.xd_points.proofs.OperationLemmas.{new_accepts_nothing}
 use Rattle.xd_bind.specs.declared.tracks.Binding.{Binding}
 use Rattle.xd_bind.specs.Projection.{IsBindingOf, owned_by}
-use Rattle.xd_given.proofs.GivenLemmas.{nothing_accepted}
 use Rattle.xd_given.proofs.ProjectLemmas.{nothing_given}
 use Rattle.xd_given.proofs.Elements.{elements_more}
 use Rattle.xd_given.proofs.projecting.nothing_bound.Goals as goal
@@ -18,7 +18,7 @@ loop-number-preserved c =
       variable = slice_get_read tracks.variables.items (length tracks.variables.items) n c.index.result.now refl within c.index.ensures ∙ ap Some (sym c.in_ok-variable.ensures);
       belongs = c.in_ok-state.ensures.belongs;
       given = nothing_given tracks.auto (owned_by tracks.marks.items n) tracks.start made c.in_ok-state.state c.requires
-          (nothing_accepted c.new-auto.result made c.in_ok-state.state c.in_ok-state.ensures.ok.0 c.in_ok-state.ensures.ok.1);
+          (new_accepts_nothing c.new-auto.result made c.in_ok-state.state c.in_ok-state.ensures.ok.0 c.in_ok-state.ensures.ok.1);
     } in
     record {
       count = omega (arith, ap length c.in_ok-push.ensures.items, length-append c.loop-number.bindings.items (binding ∷ []), c.loop-number.invariant.count);

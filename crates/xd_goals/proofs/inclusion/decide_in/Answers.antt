@@ -1,6 +1,7 @@
+use Rattle.xd_doc.proofs.StoredLemmas.{Keeps-same}
 use Rattle.xd_goals.specs.Kept.{view_of}
 use Rattle.xd_goals.proofs.Facts.{keeps_goals-then}
-use Rattle.xd_goals.proofs.FactsOnLemmas.{asked_kept, asked_stands, keeps-same, whole_of}
+use Rattle.xd_goals.proofs.FactsOnLemmas.{asked_kept, asked_stands, whole_of}
 use Rattle.xd_goals.proofs.inclusion.decide_in.Goals as goal
 
 pub find_or_add-requires-clause-consistent : goal.find_or_add-requires-clause-consistent
@@ -19,7 +20,7 @@ pub returns-in_err-asked-clause-goals : goal.returns-in_err-asked-clause-goals
 returns-in_err-asked-clause-goals c = asked_kept c.args.auto.now c.args.store.now c.args.goals.now c.find_or_add.new.goals c.find_or_add.ensures.grows (rw c.len.ensures.value at c.find_or_add.ensures.consistent) c.requires.stands
 
 pub returns-in_err-asked-clause-keeps : goal.returns-in_err-asked-clause-keeps
-returns-in_err-asked-clause-keeps c = keeps-same c.args.store.now
+returns-in_err-asked-clause-keeps c = Keeps-same c.args.store.now
 
 pub settle-requires : goal.settle-requires
 settle-requires c = record {

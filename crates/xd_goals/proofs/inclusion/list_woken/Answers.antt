@@ -1,7 +1,7 @@
 use Rattle.std.proofs.Common.{length}
 use Rattle.std.proofs.lemmas.Option.{slice_get_within}
+use Rattle.xd_doc.proofs.Lists.{all_push}
 use Rattle.xd_goals.specs.Verdicts.{IsGoalBelow}
-use Rattle.xd_rules.proofs.Lists.{all_push}
 use Rattle.xd_goals.proofs.IsWokenRowLemmas.{next_smaller, next_below}
 use Rattle.xd_goals.proofs.inclusion.list_woken.Goals as goal
 

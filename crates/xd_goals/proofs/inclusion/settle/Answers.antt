@@ -1,12 +1,13 @@
 use Rattle.std.proofs.lemmas.Result.{IfOk-from_err}
 use Rattle.std.proofs.Common.{◌+◌, ◌∙◌, arith, length, sym, rules}
+use Rattle.xd_doc.proofs.Lists.{none_of}
 use Rattle.xd_goals.specs.Kept.{view_of}
 use Rattle.xd_rules.specs.Moves.{claim_with}
 use Rattle.xd_goals.specs.Measure.{possible}
 use Rattle.xd_goals.specs.Reached.{IsWaitingIn}
 use Rattle.xd_goals.proofs.PotentialLemmas.{potential-marked}
 use Rattle.xd_goals.proofs.Trees.{read_open}
-use Rattle.xd_goals.proofs.FactsOnLemmas.{after_marks, all_before, asked_included, asked_separated, bounded, claim_stays, no_length, trees_there, waiting_below}
+use Rattle.xd_goals.proofs.FactsOnLemmas.{after_marks, all_before, asked_included, asked_separated, bounded, claim_stays, trees_there, waiting_below}
 use Rattle.xd_goals.proofs.ProgressesLemmas.{progresses-same, progresses-then}
 use Rattle.xd_goals.proofs.inclusion.settle.Goals as goal
 
@@ -48,7 +49,7 @@ returns-in-None c =
       verdict = λ left rights claim.
           asked_included c.args.auto.now (view_of c.unsettled.new.goals) c.args.asked.number left rights now.stands.facts
           (claim_stays (view_of c.args.goals.now) (view_of c.unsettled.new.goals) now.kept c.args.asked.number (claim_with left rights) claim)
-          (c.in_ok-agenda.ensures.none (no_length c.in_ok-agenda.agenda.items (search rules)));
+          (c.in_ok-agenda.ensures.none (none_of c.in_ok-agenda.agenda.items (search rules)));
       progresses = now;
     }
 

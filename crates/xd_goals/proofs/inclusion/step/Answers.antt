@@ -1,13 +1,13 @@
+use Rattle.xd_doc.proofs.Lists.{all_more}
 use Rattle.xd_rules.proofs.Results.{OnOk-from_err}
 use Rattle.std.proofs.Common.{length, arith}
 use Rattle.xd_goals.specs.Verdicts.{IsGoalBelow}
 use Rattle.xd_goals.specs.declared.table.GoalId.{GoalId}
-use Rattle.xd_rules.proofs.Lists.{all_map}
 use Rattle.xd_goals.proofs.inclusion.step.Goals as goal
 
 pub list_woken-requires-clause-agenda : goal.list_woken-requires-clause-agenda
 list_woken-requires-clause-agenda c =
-    all_map (IsGoalBelow (length c.args.goals.now.rows.items)) (IsGoalBelow (length c.work.new.goals.rows.items)) c.args.agenda.now.items (λ (g : GoalId) h. omega (arith, c.work.ensures.progresses.kept.longer)) c.requires.agenda
+    all_more (IsGoalBelow (length c.args.goals.now.rows.items)) (IsGoalBelow (length c.work.new.goals.rows.items)) c.args.agenda.now.items (λ (g : GoalId) h. omega (arith, c.work.ensures.progresses.kept.longer)) c.requires.agenda
 
 pub list_woken-requires-clause-goal : goal.list_woken-requires-clause-goal
 list_woken-requires-clause-goal c = omega (arith, c.work.ensures.progresses.kept.longer, c.requires.goal.there)

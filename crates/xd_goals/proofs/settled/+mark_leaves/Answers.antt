@@ -1,6 +1,6 @@
 use Rattle.std.proofs.Common.{◌≡◌, true, length, arith, ⊎_elim, inl, inr}
+use Rattle.xd_doc.proofs.Results.{OnOk-map}
 use Rattle.xd_goals.specs.Reached.{is_marked}
-use Rattle.xd_rules.proofs.Results.{OnOk-map}
 use Rattle.xd_goals.proofs.Trees.{StandsAt-within}
 use Rattle.xd_goals.proofs.IsWalkedLemmas.{content_within, rest_within, parts_within, leaves_content, leaves_rest, leaves_split, leaves-more, reaches-then, leaf_content, leaf_rest, leaf_of_content, only_parts}
 use Rattle.xd_goals.proofs.settled.+mark_leaves.Goals as goal

@@ -1,6 +1,6 @@
 use Rattle.std.proofs.Common.{ℕ, ◌<◌, length}
 use Rattle.std.proofs.lemmas.List.{get_or_default}
-use Rattle.xd_rules.proofs.Lists.{all_get}
+use Rattle.xd_doc.proofs.Lists.{all_get}
 use Rattle.xd_goals.proofs.IsWalkedLemmas.{marks_none, marks_more}
 use Rattle.xd_goals.proofs.settled.mark_settled.Goals as goal
 

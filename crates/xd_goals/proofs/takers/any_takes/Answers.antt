@@ -1,5 +1,5 @@
+use Rattle.xd_doc.proofs.Lists.{all_get}
 use Rattle.xd_auto.specs.Automaton.{IsState}
-use Rattle.xd_rules.proofs.Lists.{all_get}
 use Rattle.xd_goals.proofs.takers.any_takes.Goals as goal
 
 pub next_label_move-requires-in-loop-state-clause-state : goal.next_label_move-requires-in-loop-state-clause-state

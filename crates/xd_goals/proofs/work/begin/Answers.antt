@@ -1,10 +1,10 @@
 use Rattle.std.proofs.lemmas.Result.{IfOk-from_err}
 use Rattle.std.proofs.Common.{List, map, sym, ap, subst, refl, ◌∙◌, arith, rules}
+use Rattle.xd_doc.proofs.Lists.{all_get}
 use Rattle.xd_rules.specs.Moves.{claim_with}
 use Rattle.xd_goals.specs.Kept.{view_of}
 use Rattle.xd_rules.specs.Wants.{IsCaseOf, want_key}
 use Rattle.xd_rules.specs.declared.heads.Want.{Want}
-use Rattle.xd_rules.proofs.Lists.{all_get}
 use Rattle.xd_goals.proofs.HasGrownLemmas.{can_begin-then, grown-same, grown-then}
 use Rattle.std.proofs.lemmas.List.{take_all}
 use Rattle.xd_goals.proofs.IsTreeBySortLemmas.{begun_more, end_chosen, end_failed}

@@ -1,4 +1,6 @@
 use Rattle.std.proofs.Common.{◌<◌, ◌≡◌, length, sym, subst, ◌∙◌, arith, rules, refl}
+use Rattle.xd_doc.proofs.StoredLemmas.{Keeps-same}
+use Rattle.xd_doc.proofs.Results.{OnOk-map}
 use Rattle.xd_rules.specs.Rules.{Claim}
 use Rattle.xd_auto.specs.declared.auto.State.{State}
 use Rattle.xd_rules.specs.Moves.{claim_with}
@@ -6,8 +8,8 @@ use Rattle.xd_goals.specs.Kept.{view_of}
 use Rattle.xd_goals.specs.Cases.{FailsAt}
 use Rattle.xd_goals.proofs.Trees.{standing-grows}
 use Rattle.xd_goals.proofs.PotentialLemmas.{lowers-grown}
-use Rattle.xd_rules.proofs.Results.{OnOk-map, OnOk-from_err}
-use Rattle.xd_goals.proofs.FactsOnLemmas.{IsStep, held_by, keeps-same, owner_claim, same_held_by, stands_grown, step_grown, whole_of}
+use Rattle.xd_rules.proofs.Results.{OnOk-from_err}
+use Rattle.xd_goals.proofs.FactsOnLemmas.{IsStep, held_by, owner_claim, same_held_by, stands_grown, step_grown, whole_of}
 use Rattle.xd_goals.proofs.ProgressesLemmas.{can_begin, progresses-grown, progresses-settled, progresses-then, waits_grown}
 use Rattle.xd_goals.proofs.work.begin_goal.Goals as goal
 
@@ -32,7 +34,7 @@ hold-requires c = omega (arith, c.begin.ensures.grows.grows.longer, c.requires.w
 
 pub returns-in_ok-broken-in-Holds-clause-progresses : goal.returns-in_ok-broken-in-Holds-clause-progresses
 returns-in_ok-broken-in-Holds-clause-progresses c =
-    progresses-settled (whole_of (length c.args.asked.now.auto.now) c.begin.new.goals c.begin.ensures.grows.consistent) (held c) (keeps-same c.args.store.now)
+    progresses-settled (whole_of (length c.args.asked.now.auto.now) c.begin.new.goals c.begin.ensures.grows.consistent) (held c) (Keeps-same c.args.store.now)
     (rw c.hold.ensures (same_held_by c.args.asked.now.auto.now c.args.store.now (view_of c.begin.new.goals) c.args.owner.number c.in-Holds.made.items c.in_ok-broken-in-Holds.broken.items (omega (arith, c.begin.ensures.grows.grows.longer, c.requires.waits.there)) (standing-grows (view_of c.args.goals.now) (view_of c.begin.new.goals) c.begin.ensures.grows.grows c.args.owner.number ∙ c.requires.waits.waits))) refl refl refl
 
 pub returns-in_ok-broken-in-Holds-clause-settles : goal.returns-in_ok-broken-in-Holds-clause-settles

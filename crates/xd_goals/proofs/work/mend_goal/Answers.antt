@@ -1,10 +1,12 @@
 use Rattle.std.proofs.Common.{ℕ, ◌≡◌, length, ⊎_elim, sym, subst, ◌∙◌, rules, arith, refl}
 use Rattle.std.proofs.lemmas.Bool.{cases_lt}
+use Rattle.xd_doc.proofs.StoredLemmas.{Keeps-same}
+use Rattle.xd_doc.proofs.Results.{OnOk-map}
 use Rattle.xd_goals.specs.Kept.{view_of}
 use Rattle.xd_goals.specs.Rows.{GoalRow, row_at, IsUnbroken}
 use Rattle.xd_goals.proofs.AreLinkedLemmas.{row_read}
-use Rattle.xd_rules.proofs.Results.{OnOk-map, OnOk-from_err}
-use Rattle.xd_goals.proofs.FactsOnLemmas.{IsStep, keeps-same}
+use Rattle.xd_rules.proofs.Results.{OnOk-from_err}
+use Rattle.xd_goals.proofs.FactsOnLemmas.{IsStep}
 use Rattle.xd_goals.proofs.IsMendingLemmas.{lowers-mended, mended_none, mending-same, mending-then, repaired_same, repaired_step}
 use Rattle.xd_goals.proofs.ProgressesLemmas.{progresses-mending, progresses-settled, progresses-then}
 use Rattle.xd_goals.proofs.work.mend_goal.Goals as goal
@@ -14,7 +16,7 @@ pub loop-place-init : goal.loop-place-init
 loop-place-init c = record {
   can = c.requires.can;
   mending = mending-same c.args.owner.number (view_of c.args.goals.now);
-  keeps = keeps-same c.args.store.now;
+  keeps = Keeps-same c.args.store.now;
   unbroken = λ k lt. absurd (omega arith);
   end_is = subst (λ (r : GoalRow). c.len-place-end.result ≡ length r.broken) (c.row.view_is ∙ row_read c.args.goals.now.rows.items c.args.owner.number _ c.requires.waits.there c.index-row.ensures) (search rules);
 }

@@ -1,4 +1,5 @@
 use Rattle.std.proofs.Common.{◌++◌, ◌∙◌, subst, sym}
+use Rattle.xd_doc.proofs.StoredLemmas.{Keeps-same}
 use Rattle.xd_auto.specs.Automaton.{IsState}
 use Rattle.xd_goals.specs.Rows.{GoalRow, row_at, claim_of}
 use Rattle.std.specs.List.{AllByRecursion, flat_map}
@@ -7,7 +8,6 @@ use Rattle.xd_rules.specs.Moves.{heads_of}
 use Rattle.xd_rules.specs.Wants.{names_in}
 use Rattle.xd_goals.specs.Kept.{view_of}
 use Rattle.xd_goals.proofs.AreLinkedLemmas.{row_read}
-use Rattle.xd_goals.proofs.FactsOnLemmas.{keeps-same}
 use Rattle.xd_goals.proofs.Verdicts.{content_belongs, rest_belongs, separated_by}
 use Rattle.xd_goals.proofs.work.separate.Goals as goal
 
@@ -36,7 +36,7 @@ unnamed_of-requires-clause-rights c =
     rw c.deref.ensures.value (subst (λ (r : GoalRow). AllByRecursion (IsState c.args.auto.now) r.rights) (sym (c.row.view_is ∙ row_read c.args.goals.now.rows.items c.args.owner.number _ c.requires.owner c.index-row.ensures)) (c.requires.stands.facts.states.each c.args.owner.number c.requires.owner).rights)
 
 pub returns-in_err-unnamed-clause-keeps : goal.returns-in_err-unnamed-clause-keeps
-returns-in_err-unnamed-clause-keeps c = keeps-same c.args.store.now
+returns-in_err-unnamed-clause-keeps c = Keeps-same c.args.store.now
 
 pub returns-clause-keeps : goal.returns-clause-keeps
 returns-clause-keeps c = c.begin_with.ensures.keeps

@@ -1,3 +1,4 @@
+use Rattle.xd_doc.proofs.StoredLemmas.{Keeps-same}
 use Rattle.xd_rules.proofs.Results.{OnOk-from_err}
 use Rattle.std.proofs.Common.{◌≡◌, true, false, refl, ap, subst, sym, ◌∙◌, rules}
 use Rattle.std.specs.List.{AllByRecursion, list_any}
@@ -7,7 +8,7 @@ use Rattle.xd_goals.specs.Rows.{GoalRow, claim_of, row_at}
 use Rattle.xd_goals.specs.Kept.{view_of}
 use Rattle.xd_goals.proofs.AreLinkedLemmas.{row_read}
 use Rattle.xd_goals.proofs.Verdicts.{empty_separated}
-use Rattle.xd_goals.proofs.FactsOnLemmas.{IsStep, keeps-same, same_refuted, step_refuted}
+use Rattle.xd_goals.proofs.FactsOnLemmas.{IsStep, same_refuted, step_refuted}
 use Rattle.xd_goals.proofs.ProgressesLemmas.{progresses-same, progresses-settled}
 use Rattle.xd_goals.proofs.work.work.Goals as goal
 
@@ -47,7 +48,7 @@ refute-requires-clause-goal c = c.requires.waits.there
 
 pub returns-then-is_uncovered-clause-progresses : goal.returns-then-is_uncovered-clause-progresses
 returns-then-is_uncovered-clause-progresses c =
-    progresses-settled c.requires.can.whole (refuted c) (keeps-same c.args.store.now)
+    progresses-settled c.requires.can.whole (refuted c) (Keeps-same c.args.store.now)
     (same_refuted c.args.auto.now c.args.store.now c.args.goals.now.rows.items c.refute.new.rows.items c.args.goals.now.nodes.items c.args.goals.now.links.items c.args.owner.number c.empty.result c.requires.waits.there c.requires.waits.waits
     (rw c.deref-then-is_uncovered.ensures.value at c.refute.ensures)) refl refl refl
 

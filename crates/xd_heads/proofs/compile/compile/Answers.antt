@@ -1,4 +1,5 @@
-use Rattle.std.proofs.Common.{◌≡◌, ◌+◌, ◌-◌, ◌<◌, ℕ, length, arith, refl, sym, ◌∙◌, Option, None, Some}
+use Rattle.std.proofs.Common.{◌≡◌, ◌+◌, ◌-◌, ◌<◌, ℕ, length, arith, sym, ◌∙◌, Some}
+use Rattle.xd_doc.proofs.Options.{none_from}
 use Rattle.xd_continuations.specs.Bounds.{longest}
 use Rattle.xd_moves.specs.Cells.{room}
 use Rattle.xd_sound.specs.TypeNames.{meanings}
@@ -10,10 +11,6 @@ use Rattle.xd_heads.proofs.compile.compile.Goals as goal
 
 less_left : (n room : ℕ) → n < room → room - (n + 1) < room - n
 less_left n room h = omega arith
-
-nothing : {A : Type 0} (o : Option A) → ((x : A) → o ≡ Some x → ⊥) → o ≡ None
-nothing None h = refl
-nothing (Some x) h = absurd (h x refl)
 
 pub loop-number-smaller : goal.loop-number-smaller
 loop-number-smaller c =
@@ -35,7 +32,7 @@ loop-number-preserved c =
 
 pub returns-clause-compiled : goal.returns-clause-compiled
 returns-clause-compiled c =
-    let e = sym c.continuation.ensures ∙ nothing c.continuation.result c.in_default.not-Some in
+    let e = sym c.continuation.ensures ∙ none_from c.continuation.result c.in_default.not-Some in
     all_compiled c.args.sources.now.types.now c.args.sources.now.defs.now c.args.made.now.cells c.loop-number.made.cells c.args.made.now.states c.loop-number.made.states c.args.first c.args.auto.now c.loop-number.auto' c.loop-number.done
     (number_none c.loop-number.made.states c.loop-number.done e) c.loop-number.invariant
 

@@ -9,7 +9,8 @@ use Rattle.xd_continuations.proofs.ChainLemmas.{kept_same}
 use Rattle.xd_moves.specs.Cells.{StayChosen}
 use Rattle.xd_moves.specs.Found.{AreDecidingMarks, AreMovesOf, AreOfTypes}
 use Rattle.xd_continuations.specs.Bodies.{AreBodies}
-use Rattle.xd_continuations.proofs.GrownTables.{along, back_along, bodies_stand}
+use Rattle.xd_syntax.proofs.KeptLaws.{along, back_along}
+use Rattle.xd_continuations.proofs.GrownTables.{bodies_stand}
 use Rattle.xd_continuations.proofs.Bodied.{are_bodies}
 use Rattle.xd_heads.proofs.HeadLists.{heads_found}
 use Rattle.xd_heads.proofs.KeepsStatesLemmas.{marks_decide}

@@ -16,7 +16,8 @@ use Rattle.xd_heads.specs.Compiled.{AreCompiled, AreAllCompiled}
 use Rattle.xd_moves.specs.Found.{AreDecidingMarks}
 use Rattle.xd_heads.specs.Mirrors.{as_type, continuation_of, KeepsStates, Mirrors}
 use Rattle.xd_continuations.specs.Bodies.{AreBodies}
-use Rattle.xd_continuations.proofs.GrownTables.{along, back_along, bodies_stand}
+use Rattle.xd_syntax.proofs.KeptLaws.{along, back_along}
+use Rattle.xd_continuations.proofs.GrownTables.{bodies_stand}
 use Rattle.xd_continuations.proofs.Bodied.{are_bodies}
 use Rattle.xd_heads.proofs.Mirrored.{to_compiled}
 use Rattle.xd_heads.proofs.KeepsStatesLemmas.{are_merged, marks_decide, compiled_keeps, compiled_mirrors_again}

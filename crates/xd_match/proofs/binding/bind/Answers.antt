@@ -2,11 +2,11 @@ use Rattle.std.proofs.Common.{◌≡◌, ◌-◌, ◌<◌, ℕ, suc, [], ◌∷�
 use Rattle.xd_doc.specs.Document.{empty}
 use Rattle.xd_doc.specs.Stored.{document_at}
 use Rattle.xd_doc.specs.StoreNodes.{no_items}
-use Rattle.xd_doc.proofs.StoredLemmas.{Keeps-same, Keeps-trans}
+use Rattle.xd_doc.proofs.StoredLemmas.{Keeps-same, Keeps-trans, none_belongs}
 use Rattle.xd_match.specs.declared.binding.Piece.{Piece}
 use Rattle.xd_match.specs.declared.binding.Piece.TheVariants.{First}
 use Rattle.xd_match.specs.Taking.{PieceBelongs, pieces_then}
-use Rattle.xd_match.proofs.Pieces.{kept_belongs, none_belongs, one_kept, piece_belongs, pieces_more, pieces_none}
+use Rattle.xd_match.proofs.Pieces.{kept_belongs, one_kept, piece_belongs, pieces_more, pieces_none}
 use Rattle.xd_match.proofs.binding.bind.Goals as goal
 
 pub loop-left-init : goal.loop-left-init

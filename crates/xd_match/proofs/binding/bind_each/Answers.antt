@@ -9,7 +9,7 @@ use Rattle.xd_doc.proofs.StoredLemmas.{Keeps-trans}
 use Rattle.xd_auto.proofs.Walks.{places_push}
 use Rattle.xd_match.specs.declared.binding.Piece.{Piece}
 use Rattle.xd_match.specs.Taking.{PieceBelongs, pieces_then}
-use Rattle.xd_match.proofs.Pieces.{pieces_belong, pieces_kept}
+use Rattle.xd_match.proofs.Pieces.{pieces_kept, all_kept}
 use Rattle.xd_match.proofs.binding.bind_each.Goals as goal
 
 pub loop-x-preserved : goal.loop-x-preserved
@@ -42,7 +42,7 @@ bind-requires c =
     let inside : c.loop-x.x < length c.args.items.now.items = search rules in
     let read = get_or_read c.args.items.now.items c.loop-x.x c.index.result.now inside c.index.ensures c.index.result.now in
     let all : AllByRecursion (PieceBelongs c.args.store.now) c.index.result.now.items = rw read (c.requires c.loop-x.x c.index.result.now inside) in
-    rw c.deref.ensures.value (pieces_belong c.args.store.now c.loop-x.store c.index.result.now.items c.loop-x.invariant.keeps all)
+    rw c.deref.ensures.value (all_kept c.args.store.now c.loop-x.store c.index.result.now.items c.loop-x.invariant.keeps all)
 
 pub returns-in_err-made-clause-keeps : goal.returns-in_err-made-clause-keeps
 returns-in_err-made-clause-keeps c = Keeps-trans _ _ _ c.loop-x.invariant.keeps c.bind.ensures.keeps

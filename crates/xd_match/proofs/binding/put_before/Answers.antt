@@ -1,7 +1,7 @@
 use Rattle.std.proofs.Common.{◌≡◌, [], ◌∷◌, ap, sym, subst, ◌∙◌}
 use Rattle.xd_doc.specs.Document.{empty, join}
 use Rattle.xd_doc.specs.Stored.{document_at}
-use Rattle.xd_laws.proofs.Documents.{join_empty-right}
+use Rattle.xd_doc.proofs.Joins.{join_empty-right}
 use Rattle.xd_match.specs.declared.binding.Piece.{Piece}
 use Rattle.xd_match.specs.Taking.{pieces_then}
 use Rattle.xd_match.proofs.Pieces.{nothing_in}

@@ -1,14 +1,14 @@
 use Rattle.std.proofs.Common.{[], ◌∷◌, ◌++◌}
+use Rattle.xd_doc.proofs.Lists.{all_but_last}
 use Rattle.xd_patterns.specs.Held.{marking_of, variables_in}
 use Rattle.xd_match.specs.Taking.{AreTaken, IsReady}
-use Rattle.xd_match.proofs.Taken.{all_front}
 use Rattle.xd_match.proofs.front.take_items.Goals as goal
 
 pub take_task-requires-clause-ready : goal.take_task-requires-clause-ready
 take_task-requires-clause-ready c =
     let taken : AreTaken c.args.auto.now (marking_of c.args.marked.now) (variables_in c.args.marked.now) c.args.store.now c.args.start c.loop-task.items.items (c.pop.new.self.items ++ c.in-Some.task ∷ []) =
     rw c.in-Some.ensures.items at c.loop-task.invariant.taken in
-    (all_front (IsReady c.args.auto.now c.args.store.now) c.pop.new.self.items c.in-Some.task taken.ready).1
+    (all_but_last (IsReady c.args.auto.now c.args.store.now) c.pop.new.self.items c.in-Some.task taken.ready).1
 
 pub loop-task-preserved : goal.loop-task-preserved
 loop-task-preserved c =

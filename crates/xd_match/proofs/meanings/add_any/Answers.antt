@@ -6,8 +6,9 @@ use Rattle.xd_syntax.specs.TreeForms.{is_alt, alt_of}
 use Rattle.xd_syntax.specs.Table.{IsAltPart, tree_at}
 use Rattle.xd_syntax.specs.Types.{type_numbers}
 use Rattle.xd_syntax.specs.declared.types.TypeId.{TypeId}
+use Rattle.xd_syntax.proofs.TableRows.{KeepsRows-trans}
 use Rattle.xd_patterns.proofs.StateLemmas.{names_nothing}
-use Rattle.xd_match.proofs.MeaningLaws.{part_trees, rows_keep}
+use Rattle.xd_match.proofs.MeaningLaws.{part_trees}
 use Rattle.xd_match.proofs.meanings.add_any.Goals as goal
 
 pub add-requires-4 : goal.add-requires-4
@@ -21,7 +22,7 @@ add-requires-4 c =
 
 pub returns-clause-keeps : goal.returns-clause-keeps
 returns-clause-keeps c =
-    rows_keep _ _ _ (rows_keep _ _ _ (rows_keep _ _ _ (rows_keep _ _ _ c.add.ensures.keeps c.add-2.ensures.keeps) c.add-3.ensures.keeps) c.add-4.ensures.keeps) c.add-5.ensures.keeps
+    KeepsRows-trans _ _ _ (KeepsRows-trans _ _ _ (KeepsRows-trans _ _ _ (KeepsRows-trans _ _ _ c.add.ensures.keeps c.add-2.ensures.keeps) c.add-3.ensures.keeps) c.add-4.ensures.keeps) c.add-5.ensures.keeps
 
 pub returns-clause-tree : goal.returns-clause-tree
 returns-clause-tree c =

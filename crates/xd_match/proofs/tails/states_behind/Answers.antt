@@ -2,9 +2,10 @@ use Rattle.std.proofs.Common.{arith, sym, subst, ◌∙◌, inl, inr}
 use Rattle.std.proofs.lemmas.Bool.{cases_eq}
 use Rattle.xd_auto.specs.declared.auto.State.{State}
 use Rattle.xd_auto.specs.Automaton.{state_number}
+use Rattle.xd_auto.proofs.Closed.{state_of_number}
 use Rattle.xd_sound.specs.Graph.{HasEdge}
 use Rattle.xd_match.specs.Tails.{LeadsFrom}
-use Rattle.xd_match.proofs.IsSpreadLemmas.{leads_kept, state_of_number}
+use Rattle.xd_match.proofs.IsSpreadLemmas.{leads_kept}
 use Rattle.xd_match.proofs.tails.states_behind.Goals as goal
 
 pub loop-number-preserved : goal.loop-number-preserved

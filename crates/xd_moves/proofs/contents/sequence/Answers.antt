@@ -3,9 +3,10 @@ use Rattle.std.proofs.lemmas.List.{drop_all}
 use Rattle.xd_syntax.specs.Table.{tree_at}
 use Rattle.xd_syntax.specs.Types.{type_numbers}
 use Rattle.xd_syntax.specs.declared.types.TypeId.{TypeId}
+use Rattle.xd_sound.proofs.EmptyLemmas.{part_in}
 use Rattle.xd_moves.specs.Cells.{AreChosen}
 use Rattle.xd_moves.specs.Found.{IsContent}
-use Rattle.xd_moves.proofs.PutsTasksLemmas.{chosen_cell, numbers_drop, numbers_below, piece_cell}
+use Rattle.xd_moves.proofs.PutsTasksLemmas.{chosen_cell, numbers_drop, piece_cell}
 use Rattle.xd_moves.proofs.WorkedTaskLemmas.{content_none, content_put}
 use Rattle.xd_moves.proofs.contents.sequence.Goals as goal
 
@@ -31,7 +32,7 @@ stand_in-requires-clause-there g c =
     let t = c.loop-at-test.true in
     let u = c.loop-at.auto.at in
     let l : n - 1 < length parts = omega arith in
-    let h = numbers_below (length c.args.types.now) parts (n - 1) no_type c.requires.parts l in
+    let h = part_in (length c.args.types.now) parts (n - 1) no_type c.requires.parts l in
     let a = c.at.ensures in
     omega arith
 

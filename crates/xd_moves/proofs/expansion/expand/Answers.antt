@@ -1,10 +1,11 @@
 use Rattle.std.proofs.Common.{◌≡◌, ◌<◌, ℕ, [], ◌∷◌, List, true, false, length, vec_len, arith, refl, ap, sym, subst}
 use Rattle.std.specs.List.{AllByRecursion}
+use Rattle.xd_doc.proofs.Lists.{all_last}
 use Rattle.xd_continuations.specs.Expansion.{work_left}
 use Rattle.xd_sound.specs.TypeNames.{meanings}
 use Rattle.xd_moves.specs.Found.{IsTask, waiting_at}
 use Rattle.xd_moves.specs.Cells.{Cell}
-use Rattle.xd_moves.proofs.WorkedTaskLemmas.{IsExpanding, all_last, expanding_first, expanding_on, expanding_less, all_found}
+use Rattle.xd_moves.proofs.WorkedTaskLemmas.{IsExpanding, expanding_first, expanding_on, expanding_less, all_found}
 use Rattle.xd_moves.proofs.expansion.expand.Goals as goal
 
 pub loop-task-init : goal.loop-task-init

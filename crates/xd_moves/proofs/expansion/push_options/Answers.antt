@@ -3,9 +3,10 @@ use Rattle.std.proofs.lemmas.List.{drop_all}
 use Rattle.xd_syntax.specs.Table.{tree_at}
 use Rattle.xd_syntax.specs.Types.{type_numbers}
 use Rattle.xd_syntax.specs.declared.types.TypeId.{TypeId}
+use Rattle.xd_sound.proofs.EmptyLemmas.{part_in}
 use Rattle.xd_continuations.specs.Expansion.{task}
 use Rattle.xd_moves.specs.Found.{PutsTasks, continuation}
-use Rattle.xd_moves.proofs.PutsTasksLemmas.{node_piece, numbers_drop, numbers_below, puts_none, puts_part}
+use Rattle.xd_moves.proofs.PutsTasksLemmas.{node_piece, numbers_drop, puts_none, puts_part}
 use Rattle.xd_moves.proofs.expansion.push_options.Goals as goal
 
 no_type : TypeId
@@ -29,7 +30,7 @@ loop-at-preserved c types cells stand within =
     let e = numbers_drop parts n no_type t u in
     subst (λ is. PutsTasks types cells c.args.tasks.now.items c.push_part.new.tasks.items (map (task (continuation types cells c.args.behind)) (map (tree_at types) is))) (sym e)
     (puts_part types cells c.args.tasks.now.items c.loop-at.tasks.items (map (task (continuation types cells c.args.behind)) (map (tree_at types) (type_numbers (drop n parts)))) (node_piece i) i c.args.behind
-    (c.loop-at.invariant types cells stand within) refl (numbers_below (length types) parts (n - 1) no_type stand l) within c.push_part.new.tasks.items c.in_ok-push_part.ensures)
+    (c.loop-at.invariant types cells stand within) refl (part_in (length types) parts (n - 1) no_type stand l) within c.push_part.new.tasks.items c.in_ok-push_part.ensures)
 
 pub returns : goal.returns
 returns c types cells stand within =

@@ -2,10 +2,11 @@ use Rattle.std.proofs.Common.{◌≡◌, ◌-◌, ◌<◌, ◌++◌, map, true, 
 use Rattle.xd_syntax.specs.Table.{tree_at}
 use Rattle.xd_syntax.specs.Types.{type_numbers}
 use Rattle.xd_syntax.specs.declared.types.TypeId.{TypeId}
+use Rattle.xd_sound.proofs.EmptyLemmas.{part_in}
 use Rattle.xd_moves.specs.Pieces.{piece_tree}
 use Rattle.xd_moves.specs.declared.piece.Piece.{Piece}
 use Rattle.xd_moves.specs.Found.{PutsSequence, StayBounded, continuation}
-use Rattle.xd_moves.proofs.PutsTasksLemmas.{chosen_cell, pushed_next, kept_all, kept_none, node_piece, numbers_drop, numbers_below, piece_cell}
+use Rattle.xd_moves.proofs.PutsTasksLemmas.{chosen_cell, pushed_next, kept_all, kept_none, node_piece, numbers_drop, piece_cell}
 use Rattle.xd_moves.proofs.expansion.push_sequence.Goals as goal
 use Rattle.xd_moves.proofs.expansion.push_sequence.Goals.{then-not-marks-part, else-not-marks-part}
 
@@ -20,7 +21,7 @@ bounds-marks-part g c =
     let t = c.loop-at-test.true in
     let u = c.loop-at.auto.at in
     let l : n - 1 < length parts = omega arith in
-    let h = numbers_below (length c.args.types.now) parts (n - 1) no_type c.requires.parts l in
+    let h = part_in (length c.args.types.now) parts (n - 1) no_type c.requires.parts l in
     let a = ap (λ (p : Piece). p.node) c.whole-part.ensures in
     let m = c.requires.marks in
     omega arith
@@ -33,7 +34,7 @@ stand_in-requires-clause-there g c =
     let t = c.loop-at-test.true in
     let u = c.loop-at.auto.at in
     let l : n - 1 < length parts = omega arith in
-    let h = numbers_below (length c.args.types.now) parts (n - 1) no_type c.requires.parts l in
+    let h = part_in (length c.args.types.now) parts (n - 1) no_type c.requires.parts l in
     let a = ap (λ (p : Piece). p.node) c.whole-part.ensures in
     omega arith
 
@@ -67,7 +68,7 @@ loop-at-preserved g c =
     record {
       pushed =
           pushed_next types marks c.args.cells.now c.args.behind old (type_numbers (drop n parts)) c.loop-at.rest c.loop-at.cells c.loop-at.tasks.items c.loop-at.invariant.pushed
-          i (numbers_below (length types) parts (n - 1) no_type c.requires.parts l) c.if-not-marks-part.tasks.items kept
+          i (part_in (length types) parts (n - 1) no_type c.requires.parts l) c.if-not-marks-part.tasks.items kept
           part w c.stand_in.result c.stand_in.ensures.there (c.stand_in.ensures.tree ∙ ap (piece_tree types) w)
           c.put.new.self c.in_ok-rest.rest
           c.in_ok-rest.ensures.links c.in_ok-rest.ensures.within.1

@@ -1,10 +1,11 @@
 use Rattle.std.proofs.Common.{◌≡◌, sym, ap, ◌∙◌, subst}
+use Rattle.xd_doc.proofs.Options.{some_map}
 use Rattle.xd_syntax.specs.Table.{form_tree, tree_at}
 use Rattle.xd_syntax.specs.Tree.{Name}
 use Rattle.xd_syntax.specs.Types.{form_of}
 use Rattle.xd_syntax.specs.declared.types.TypeId.{TypeId}
 use Rattle.xd_named_parts.specs.Copies.{IsMeantCopy}
-use Rattle.xd_named_parts.proofs.CopyLaws.{node_by_name_grown, some_map}
+use Rattle.xd_named_parts.proofs.CopyLaws.{node_by_name_grown}
 use Rattle.xd_named_parts.proofs.copies.inner_copy.Goals as goal
 
 pub returns-in-None-clause-copy : goal.returns-in-None-clause-copy

@@ -1,9 +1,10 @@
 use Rattle.std.proofs.Common.{[], ◌∷◌, arith, get_or, length, ◌<◌, sym, subst}
+use Rattle.xd_doc.proofs.Lists.{all_there}
 use Rattle.xd_syntax.specs.Words.{any_word}
 use Rattle.xd_syntax.specs.declared.types.TypeId.{TypeId}
 use Rattle.xd_same_types.proofs.Ids.{got}
 use Rattle.xd_named_parts.specs.Copies.{StandForNodes, StandsForNode}
-use Rattle.xd_named_parts.proofs.CopyLaws.{all_there, grows_by, grows_then, name_among}
+use Rattle.xd_named_parts.proofs.CopyLaws.{grows_by, grows_then, name_among}
 use Rattle.xd_named_parts.proofs.NamedLaws.{known_there}
 use Rattle.xd_named_parts.proofs.copies.name_nodes.Goals as goal
 

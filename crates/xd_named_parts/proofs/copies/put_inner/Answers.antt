@@ -1,7 +1,8 @@
 use Rattle.std.proofs.Common.{arith, length, ◌<◌, subst}
 use Rattle.std.specs.Option.{IfSome}
+use Rattle.xd_doc.proofs.Options.{some_holds}
 use Rattle.xd_named_parts.specs.Copies.{AreGiven, IsNodeCopy}
-use Rattle.xd_named_parts.proofs.CopyLaws.{copies_set, grows_rows, some_holds}
+use Rattle.xd_named_parts.proofs.CopyLaws.{copies_set, grows_rows}
 use Rattle.xd_named_parts.proofs.copies.put_inner.Goals as goal
 
 pub returns-in-Some-clause-grows : goal.returns-in-Some-clause-grows

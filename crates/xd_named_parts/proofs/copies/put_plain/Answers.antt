@@ -1,11 +1,12 @@
 use Rattle.std.proofs.Common.{arith, length, ◌<◌, [], ◌∷◌, subst, sym}
 use Rattle.std.specs.Option.{IfSome}
+use Rattle.xd_doc.proofs.Options.{some_holds}
 use Rattle.xd_syntax.specs.Types.{tree}
 use Rattle.xd_syntax.specs.Words.{any_word}
 use Rattle.xd_same_types.specs.Same.{HasTops}
 use Rattle.xd_syntax.specs.declared.types.TypeId.{TypeId}
 use Rattle.xd_named_parts.specs.Copies.{AreBare, AreGivenWith, IsNodeCopy}
-use Rattle.xd_named_parts.proofs.CopyLaws.{bare_kept, bare_set, copies_set, grows_rows, some_holds}
+use Rattle.xd_named_parts.proofs.CopyLaws.{bare_kept, bare_set, copies_set, grows_rows}
 use Rattle.xd_named_parts.proofs.copies.put_plain.Goals as goal
 
 pub returns-in-Some-clause-grows : goal.returns-in-Some-clause-grows

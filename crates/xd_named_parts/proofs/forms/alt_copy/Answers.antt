@@ -1,11 +1,12 @@
 use Rattle.std.proofs.Common.{arith, refl, sym, subst}
 use Rattle.std.specs.List.{AllByRecursion}
+use Rattle.xd_doc.proofs.Options.{some_holds}
 use Rattle.xd_syntax.specs.TreeForms.{alt_of}
 use Rattle.xd_syntax.specs.Types.{BelongsTo}
 use Rattle.xd_same_types.specs.Same.{AreAltParts, trees}
 use Rattle.xd_same_types.proofs.Tables.{numbers_count, alt_numbers}
 use Rattle.xd_named_parts.specs.Copies.{AllCopied, TakesAll}
-use Rattle.xd_named_parts.proofs.CopyLaws.{alt_any, alt_is, copied_belong, some_holds}
+use Rattle.xd_named_parts.proofs.CopyLaws.{alt_any, alt_is, copied_belong}
 use Rattle.xd_named_parts.proofs.forms.alt_copy.Goals as goal
 
 pub are_alt_parts-requires : goal.are_alt_parts-requires

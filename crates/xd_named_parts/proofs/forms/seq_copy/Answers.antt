@@ -1,10 +1,11 @@
 use Rattle.std.proofs.Common.{arith, refl, sym, subst}
 use Rattle.std.specs.List.{AllByRecursion}
+use Rattle.xd_doc.proofs.Options.{some_holds}
 use Rattle.xd_syntax.specs.Types.{BelongsTo}
 use Rattle.xd_same_types.specs.Same.{AreSeqParts}
 use Rattle.xd_same_types.proofs.Tables.{numbers_count, seq_numbers}
 use Rattle.xd_named_parts.specs.Copies.{AllCopied}
-use Rattle.xd_named_parts.proofs.CopyLaws.{seq_is, copied_belong, some_holds}
+use Rattle.xd_named_parts.proofs.CopyLaws.{seq_is, copied_belong}
 use Rattle.xd_named_parts.proofs.forms.seq_copy.Goals as goal
 
 pub are_seq_parts-requires : goal.are_seq_parts-requires

@@ -1,10 +1,11 @@
 use Rattle.std.proofs.Common.{◌≡◌, List, [], ◌∷◌, arith, length, refl, sym, subst, ◌∙◌}
+use Rattle.xd_doc.proofs.Options.{some_holds}
 use Rattle.xd_syntax.specs.Table.{Row}
 use Rattle.xd_syntax.specs.Words.{any_word}
 use Rattle.xd_same_types.specs.Grown.{NamesAmong}
 use Rattle.xd_named_parts.specs.Copies.{AllCopied, AreGivenWith, CopiesBelong, GrowsCopies, StandForNodes}
 use Rattle.xd_named_parts.specs.declared.parts.Definitions.{Definitions}
-use Rattle.xd_named_parts.proofs.CopyLaws.{no_copy, some_holds}
+use Rattle.xd_named_parts.proofs.CopyLaws.{no_copy}
 use Rattle.xd_named_parts.proofs.NamedLaws.{are_shorter}
 use Rattle.xd_named_parts.proofs.parts.named_by.Goals as goal
 

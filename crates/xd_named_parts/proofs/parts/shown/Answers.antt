@@ -1,7 +1,8 @@
+use Rattle.xd_doc.proofs.Options.{some_holds}
+use Rattle.xd_doc.proofs.Results.{ok_both}
 use Rattle.xd_syntax.specs.Kept.{program_tree}
 use Rattle.xd_named_parts.specs.Shorter.{AreShorter}
-use Rattle.xd_named_parts.proofs.CopyLaws.{some_holds}
-use Rattle.xd_named_parts.proofs.NamedLaws.{given_shown, ok_both, short_shown}
+use Rattle.xd_named_parts.proofs.NamedLaws.{given_shown, short_shown}
 use Rattle.xd_named_parts.proofs.parts.shown.Goals as goal
 
 pub returns-in-Some : goal.returns-in-Some

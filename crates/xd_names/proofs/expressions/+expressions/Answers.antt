@@ -2,6 +2,7 @@ use Rattle.std.proofs.Common.{◌≡◌, ℕ, ◌<◌, ◌≤◌, ◌+◌, ◌*�
 use Rattle.std.specs.List.{AllByRecursion}
 use Rattle.std.proofs.lemmas.List.{length-map}
 use Rattle.xd_base.specs.declared.Place.{Place}
+use Rattle.xd_doc.proofs.Lists.{take_front, all_below}
 use Rattle.xd_syntax.specs.Placed.{PlacedTree, variables}
 use Rattle.xd_syntax.specs.PlacedTable.{placed_at}
 use Rattle.xd_syntax.specs.Expression.{Expression, arguments_of}
@@ -14,8 +15,7 @@ use Rattle.xd_syntax.specs.declared.exprs.Clause.{Clause}
 use Rattle.xd_syntax.specs.declared.fault.Fault.{Fault}
 use Rattle.xd_names.specs.Knows.{whole, wanted_faults}
 use Rattle.xd_names.proofs.WordLemmas.{drop_at}
-use Rattle.xd_names.proofs.TreeLemmas.{below_more, part_step}
-use Rattle.xd_names.proofs.LinearLemmas.{take_front}
+use Rattle.xd_names.proofs.TreeLemmas.{part_step}
 use Rattle.xd_names.proofs.NameLemmas.{call_wants}
 use Rattle.xd_names.proofs.ExprLemmas.{faults_of_parts, faults_of_arguments, arguments_given, body_faults, ceiling, ceiling_within, bodies, bodies_below, bodies_more}
 use Rattle.xd_names.proofs.expressions.+expressions.Goals as goal
@@ -29,7 +29,7 @@ in_expression-in_parts-requires t c =
     let top = ceiling_within n (expr_numbers c.deref.result.now) here in
     let within : n ≤ length c.args.program.now.exprs = omega arith in
     let falls : 2 * ceiling (expr_numbers c.deref.result.now) < t = omega arith in
-    (falls, (c.requires.knows, below_more n (length c.args.program.now.exprs) within (expr_numbers c.deref.result.now) here))
+    (falls, (c.requires.knows, all_below n (length c.args.program.now.exprs) within (expr_numbers c.deref.result.now) here))
 
 pub in_expression-in_parts-requires-in-Call : goal.in_expression-in_parts-requires-in-Call
 in_expression-in_parts-requires-in-Call t c =
@@ -40,7 +40,7 @@ in_expression-in_parts-requires-in-Call t c =
     let top = ceiling_within n (expr_numbers c.deref-in-Call.result.now) here in
     let within : n ≤ length c.args.program.now.exprs = omega arith in
     let falls : 2 * ceiling (expr_numbers c.deref-in-Call.result.now) < t = omega arith in
-    (falls, (c.requires.knows, below_more n (length c.args.program.now.exprs) within (expr_numbers c.deref-in-Call.result.now) here))
+    (falls, (c.requires.knows, all_below n (length c.args.program.now.exprs) within (expr_numbers c.deref-in-Call.result.now) here))
 
 pub in_expression-in_clauses-requires : goal.in_expression-in_clauses-requires
 in_expression-in_clauses-requires t c =

@@ -1,5 +1,6 @@
 use Rattle.std.proofs.Common.{◌≡◌, ℕ, ◌<◌, ◌≤◌, ◌+◌, arith, Bool, true, false, not, ◌&&◌, ◌||◌, List, [], ◌∷◌, ◌++◌, map, flat_map, length, take, drop, get_or, ap, sym, subst, ◌∙◌, append_assoc, append-nil}
 use Rattle.std.specs.List.{AllByRecursion, list_all}
+use Rattle.xd_doc.proofs.Lists.{take_front, drop_past}
 use Rattle.xd_syntax.specs.Words.{has_word}
 use Rattle.xd_syntax.specs.Table.{CanFollow}
 use Rattle.xd_syntax.specs.Patterns.{pattern_numbers}
@@ -13,8 +14,8 @@ use Rattle.xd_syntax.specs.declared.fault.Fault.{Fault}
 use Rattle.xd_syntax.specs.declared.fault.FaultKind.TheVariants.{NotLinear}
 use Rattle.xd_syntax.proofs.NodeParts.{viewed_tree}
 use Rattle.xd_names.proofs.WordLemmas.{drop_at}
-use Rattle.xd_names.proofs.TreeLemmas.{parts_step, variables_seq, variables_alt, parts_done, drop_past}
-use Rattle.xd_names.proofs.LinearLemmas.{no_alts, not_linear-seq, seq_faults, alt_faults, seq_more, alt_more, alt_all, partial_more, partial_val, partial_alt, val_faults, take_front}
+use Rattle.xd_names.proofs.TreeLemmas.{parts_step, variables_seq, variables_alt, parts_done}
+use Rattle.xd_names.proofs.LinearLemmas.{no_alts, not_linear-seq, seq_faults, alt_faults, seq_more, alt_more, alt_all, partial_more, partial_val, partial_alt, val_faults}
 use Rattle.xd_names.proofs.linear.+not_linear.Goals as goal
 
 pub returns-in_ok-not_linear-in-Val-clause-partial : goal.returns-in_ok-not_linear-in-Val-clause-partial

@@ -2,11 +2,13 @@ use Rattle.std.proofs.Common.{[], arith, sym, subst}
 use Rattle.xd_syntax.specs.PlacedTable.{placed_at}
 use Rattle.xd_syntax.specs.FunctionRow.{FunctionRow}
 use Rattle.xd_syntax.specs.Kept.{FunctionStands, function_definition}
+use Rattle.xd_syntax.proofs.TableRows.{KeepsRows-trans}
 use Rattle.xd_grammar.specs.declared.grammar.Terminal.TheVariants as t
+use Rattle.xd_parse_trees.proofs.NodeRows.{same_behind}
 use Rattle.xd_parse.specs.Definitions.{ReadsInFront, one_function}
 use Rattle.xd_parse_trees.specs.Shallow.{NoDeeper, DefinitionsWithin}
-use Rattle.xd_parse.proofs.DefinitionRows.{table, function_reads, function_deeper, params_kept, params_more, behind_less, behind_fewer}
-use Rattle.xd_parse_trees.proofs.Kept.{KeepsRows-refl, KeepsRows-trans}
+use Rattle.xd_parse.proofs.DefinitionRows.{table, function_reads, function_deeper, params_kept, params_more, behind_fewer}
+use Rattle.xd_parse_trees.proofs.Kept.{KeepsRows-refl}
 use Rattle.xd_parse.proofs.definitions.read_function.Goals as goal
 
 pub returns-clause-reads : goal.returns-clause-reads
@@ -30,11 +32,11 @@ returns-clause-fewer c =
     omega (
       arith,
       behind_fewer c.args.cursor.now c.step.new.self t.Fun (λ e. cc) c.requires.front c.step.ensures.left,
-      behind_less c.step.new.self c.word.new.self c.in_ok-name.ensures.left,
+      same_behind c.step.new.self c.word.new.self c.in_ok-name.ensures.left,
       c.in_ok-params.ensures.fewer,
-      behind_less c.read_params.new.cursor c.step-2.new.self c.step-2.ensures.left,
+      same_behind c.read_params.new.cursor c.step-2.new.self c.step-2.ensures.left,
       c.in_ok-declared.ensures.fewer,
-      behind_less c.read_type.new.cursor c.step-3.new.self c.step-3.ensures.left,
+      same_behind c.read_type.new.cursor c.step-3.new.self c.step-3.ensures.left,
       c.in_ok-body.ensures.left,
     )
 

@@ -1,5 +1,6 @@
 use Rattle.std.proofs.Common.{arith, ap, length}
-use Rattle.xd_parse.proofs.DefinitionRows.{param_reads, behind_less}
+use Rattle.xd_parse_trees.proofs.NodeRows.{same_behind}
+use Rattle.xd_parse.proofs.DefinitionRows.{param_reads}
 use Rattle.xd_parse_trees.proofs.Kept.{KeepsRows-refl}
 use Rattle.xd_parse.proofs.definitions.read_param.Goals as goal
 
@@ -12,11 +13,11 @@ returns-clause-fewer c =
     omega (
       arith,
       ap length c.step.ensures.left,
-      behind_less c.step.new.self c.step-2.new.self c.step-2.ensures.left,
-      behind_less c.step-2.new.self c.word.new.self c.in_ok-name.ensures.left,
-      behind_less c.word.new.self c.step-3.new.self c.step-3.ensures.left,
+      same_behind c.step.new.self c.step-2.new.self c.step-2.ensures.left,
+      same_behind c.step-2.new.self c.word.new.self c.in_ok-name.ensures.left,
+      same_behind c.word.new.self c.step-3.new.self c.step-3.ensures.left,
       c.in_ok-body.ensures.fewer,
-      behind_less c.read_type.new.cursor c.step-4.new.self c.step-4.ensures.left,
+      same_behind c.read_type.new.cursor c.step-4.new.self c.step-4.ensures.left,
     )
 
 pub returns-in_err-name-clause-keeps : goal.returns-in_err-name-clause-keeps

@@ -1,7 +1,8 @@
 use Rattle.std.proofs.Common.{arith, sym, refl}
+use Rattle.xd_syntax.proofs.TableRows.{KeepsRows-trans}
 use Rattle.xd_parse_trees.specs.Reading.{behind}
-use Rattle.xd_parse_trees.proofs.Kept.{KeepsRows-trans}
-use Rattle.xd_parse.proofs.DefinitionRows.{first_param, next_param, next_deeper, last_param, behind_less}
+use Rattle.xd_parse_trees.proofs.NodeRows.{same_behind}
+use Rattle.xd_parse.proofs.DefinitionRows.{first_param, next_param, next_deeper, last_param}
 use Rattle.xd_parse_trees.proofs.Rows.{next_lt_at}
 use Rattle.xd_grammar.specs.declared.grammar.Terminal.TheVariants as t
 use Rattle.xd_parse.proofs.definitions.read_params.Goals as goal
@@ -10,7 +11,7 @@ pub params-init : goal.params-init
 params-init c = record {
   read = rw (c.in_ok-push.ensures.items, c.new-params.ensures.items) (first_param c.read_param.new.types c.args.cursor.now c.read_param.new.cursor _ c.in_ok-read_param.ensures.reads c.in_ok-read_param.ensures.belongs);
   keeps = c.in_ok-read_param.ensures.keeps;
-  fewer = omega (arith, behind_less c.args.cursor.now (behind c.args.cursor.now) refl, c.in_ok-read_param.ensures.fewer);
+  fewer = omega (arith, same_behind c.args.cursor.now (behind c.args.cursor.now) refl, c.in_ok-read_param.ensures.fewer);
   no_deeper = rw (c.in_ok-push.ensures.items, c.new-params.ensures.items) (λ limit o w. c.in_ok-read_param.ensures.no_deeper limit o w.0);
 }
 
@@ -19,7 +20,7 @@ params-preserved c = record {
   read = rw c.in_ok-push-2.ensures.items
       (next_param c.params.types c.read_param-in-params.new.types c.args.cursor.now c.params.cursor c.read_param-in-params.new.cursor c.params.params.items _ (sym c.params-test.ensures) c.in_ok-read_param-2.ensures.keeps c.params.invariant.read c.in_ok-read_param-2.ensures.reads c.in_ok-read_param-2.ensures.belongs);
   keeps = KeepsRows-trans c.args.types.now c.params.types c.read_param-in-params.new.types c.params.invariant.keeps c.in_ok-read_param-2.ensures.keeps;
-  fewer = omega (arith, behind_less c.params.cursor (behind c.params.cursor) refl, c.in_ok-read_param-2.ensures.fewer, c.params.invariant.fewer);
+  fewer = omega (arith, same_behind c.params.cursor (behind c.params.cursor) refl, c.in_ok-read_param-2.ensures.fewer, c.params.invariant.fewer);
   no_deeper = rw c.in_ok-push-2.ensures.items
       (next_deeper c.args.types.now c.params.types c.read_param-in-params.new.types c.params.params.items _ c.in_ok-read_param-2.ensures.keeps c.params.invariant.read.belong c.params.invariant.no_deeper c.in_ok-read_param-2.ensures.no_deeper);
 }

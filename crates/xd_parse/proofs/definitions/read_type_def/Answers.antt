@@ -1,6 +1,7 @@
 use Rattle.std.proofs.Common.{arith}
 use Rattle.xd_grammar.specs.declared.grammar.Terminal.TheVariants as t
-use Rattle.xd_parse.proofs.DefinitionRows.{type_def_reads, behind_less, behind_fewer}
+use Rattle.xd_parse_trees.proofs.NodeRows.{same_behind}
+use Rattle.xd_parse.proofs.DefinitionRows.{type_def_reads, behind_fewer}
 use Rattle.xd_parse_trees.proofs.Kept.{KeepsRows-refl}
 use Rattle.xd_parse.proofs.definitions.read_type_def.Goals as goal
 
@@ -13,8 +14,8 @@ returns-clause-fewer c =
     omega (
       arith,
       behind_fewer c.args.cursor.now c.step.new.self t.Type (λ e. cc) c.requires c.step.ensures.left,
-      behind_less c.step.new.self c.word.new.self c.in_ok-name.ensures.left,
-      behind_less c.word.new.self c.step-2.new.self c.step-2.ensures.left,
+      same_behind c.step.new.self c.word.new.self c.in_ok-name.ensures.left,
+      same_behind c.word.new.self c.step-2.new.self c.step-2.ensures.left,
       c.in_ok-body.ensures.fewer,
     )
 

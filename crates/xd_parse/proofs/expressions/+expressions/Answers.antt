@@ -10,19 +10,22 @@ use Rattle.xd_syntax.specs.ExpressionTable.{ExprRow, empty_shape, text_shape, va
 use Rattle.xd_syntax.specs.Exprs.{expression, expr_numbers, clause_numbers}
 use Rattle.xd_syntax.specs.declared.exprs.ExprId.{ExprId}
 use Rattle.xd_syntax.specs.declared.exprs.Clause.{Clause}
+use Rattle.xd_syntax.proofs.ExprTrees.{count_numbers}
+use Rattle.xd_syntax.proofs.TableRows.{KeepsRows-trans}
 use Rattle.xd_grammar.specs.declared.grammar.Nonterminal.TheVariants as n
 use Rattle.xd_grammar.specs.declared.grammar.Terminal.TheVariants as t
 use Rattle.xd_grammar.specs.Fits.{same}
 use Rattle.xd_parse_trees.specs.Values.{an_expression, a_clause, word_expression}
 use Rattle.xd_parse_trees.specs.Reading.{Reads, front_terminal, front_place, behind}
+use Rattle.xd_parse_trees.proofs.StandLemmas.{kept}
 use Rattle.xd_parse.specs.Items.{expression_of}
-use Rattle.xd_parse_trees.proofs.Kept.{IsPattern-more, KeepsRows-trans}
-use Rattle.xd_parse.proofs.Grown.{Grows-refl, same_pattern}
+use Rattle.xd_parse_trees.proofs.Kept.{IsPattern-more}
+use Rattle.xd_parse.proofs.Grown.{Grows-refl}
 use Rattle.xd_parse.proofs.JoinLemmas.{numbers_push, positive}
 use Rattle.xd_parse_trees.proofs.Rows.{behind_le, next_lt, next_lt_at, front_same}
 use Rattle.xd_parse.proofs.ExprRows.{item_text, item_label, item_paren, content_empty, content_full, paren_empty, paren_full, clause_reads}
 use Rattle.xd_parse.proofs.Readers.{items_start, items_step, items_done, ReadArguments, arguments_start, arguments_step, arguments_done, ReadClauses, clauses_start, clauses_step, clauses_done}
-use Rattle.xd_parse.proofs.ReadsLemmas.{if_ok, from_there, to_there, add_reads, item_reads, nothing_reads, nothing_stands, node_reads, node_grows, add_grows, at_place, quoted_at, tagged_at, no_ids, call_is, length-numbers, clause_numbers_push, first_pushed, nothing_begins}
+use Rattle.xd_parse.proofs.ReadsLemmas.{if_ok, from_there, to_there, add_reads, item_reads, nothing_reads, nothing_stands, node_reads, node_grows, add_grows, at_place, quoted_at, tagged_at, no_ids, call_is, clause_numbers_push, first_pushed, nothing_begins}
 use Rattle.xd_parse.proofs.expressions.+expressions.Goals as goal
 
 pub read_clause-returns-clause-reads : goal.read_clause-returns-clause-reads
@@ -32,7 +35,7 @@ read_clause-returns-clause-reads size c =
     let ps : List Row = c.read_pattern_seq.new.patterns in
     let qs : List Row = c.read_expr.new.patterns in
     let e : Expression = expression qs c.read_expr.new.exprs c.in_ok-body.body in
-    let s : placed_at qs c.in_ok-pattern.pattern.at ≡ placed_at ps c.in_ok-pattern.pattern.at = same_pattern ps qs c.in_ok-pattern.pattern.at (c.in_ok-body.ensures.grows).rows c.in_ok-pattern.ensures.belongs in
+    let s : placed_at qs c.in_ok-pattern.pattern.at ≡ placed_at ps c.in_ok-pattern.pattern.at = kept ps qs c.in_ok-pattern.pattern.at (c.in_ok-body.ensures.grows).rows c.in_ok-pattern.ensures.belongs in
     subst (λ (T : PlacedTree). Reads n.Clause c.args.cursor.now to (a_clause T e)) (sym s)
     (clause_reads c.args.cursor.now m to (placed_at ps c.in_ok-pattern.pattern.at) e c.in_ok-pattern.ensures.reads
     (from_there n.Expr c.step.new.self (behind m) to (an_expression e) c.step.ensures.left c.in_ok-body.ensures.reads))
@@ -207,7 +210,7 @@ read_named-returns-else-is_empty-clause-reads size c =
     let w : List ℕ = c.in_ok-name.name.word in
     let p : Place = c.in_ok-name.name.place in
     let more : List ExprId = c.arguments.arguments.items in
-    let some : 0 < length (expr_numbers more) = omega (arith, length-numbers more, positive (vec_len c.arguments.arguments) (sym c.is_empty.ensures ∙ c.if-is_empty.false), c.arguments.arguments.ok.0) in
+    let some : 0 < length (expr_numbers more) = omega (arith, count_numbers more, positive (vec_len c.arguments.arguments) (sym c.is_empty.ensures ∙ c.if-is_empty.false), c.arguments.arguments.ok.0) in
     let r : Reads n.Item from here (an_expression (word_expression w p (map (expression_at ps es) (expr_numbers more))))
     = arguments_done from here c.args.patterns.now c.args.exprs.now ps es w p (expr_numbers more) c.arguments.invariant (sym c.at.ensures ∙ c.arguments-test.false) in
     item_reads c.add_item-else-is_empty.result n.Item from here ps es c.add_item-else-is_empty.new.exprs p (call_shape w (expr_numbers more)) c.add_item-else-is_empty.ensures.expression

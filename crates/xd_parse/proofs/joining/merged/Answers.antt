@@ -6,8 +6,9 @@ use Rattle.xd_syntax.specs.ExpressionTable.{ExprRow, expression_at}
 use Rattle.xd_syntax.specs.Expression.{joined, place_of_expression}
 use Rattle.xd_syntax.specs.Exprs.{expr_numbers, expression}
 use Rattle.xd_syntax.specs.declared.exprs.ExprId.{ExprId}
+use Rattle.xd_syntax.proofs.ExprTrees.{place_of_shape}
 use Rattle.xd_parse_trees.specs.Merged.{merged_expression}
-use Rattle.xd_parse.proofs.JoinLemmas.{merged_is, place_of_shape}
+use Rattle.xd_parse.proofs.JoinLemmas.{merged_is}
 use Rattle.xd_parse.proofs.joining.merged.Goals as goal
 
 pub returns-in-len1-up-clause-value : goal.returns-in-len1-up-clause-value

@@ -1,4 +1,4 @@
-use Rattle.xd_parse_trees.proofs.Kept.{KeepsRows-trans}
+use Rattle.xd_syntax.proofs.TableRows.{KeepsRows-trans}
 use Rattle.xd_parse_trees.proofs.StandLemmas.{in_one_choice, stand_stays}
 use Rattle.xd_parse_trees.proofs.parts.in_alternative.Goals as goal
 

@@ -1,6 +1,7 @@
 use Rattle.std.proofs.Common.{sym, ◌∙◌}
+use Rattle.xd_syntax.proofs.TableRows.{KeepsRows-trans}
 use Rattle.xd_parse_trees.proofs.StandLemmas.{back_none, front_none, in_one_row, stand_stays}
-use Rattle.xd_parse_trees.proofs.Kept.{KeepsRows-refl, KeepsRows-trans}
+use Rattle.xd_parse_trees.proofs.Kept.{KeepsRows-refl}
 use Rattle.xd_parse_trees.proofs.parts.in_sequence.Goals as goal
 
 pub returns-then-is_none-clause-merges : goal.returns-then-is_none-clause-merges

@@ -1,6 +1,6 @@
 use Rattle.std.proofs.lemmas.Result.{IfOk-weaker}
+use Rattle.xd_syntax.proofs.TableRows.{KeepsRows-trans}
 use Rattle.xd_parse_trees.proofs.NodeRows.{node_read}
-use Rattle.xd_parse_trees.proofs.Kept.{KeepsRows-trans}
 use Rattle.xd_parse_trees.proofs.patterns.read_pattern_seq.Goals as goal
 
 pub returns-clause-reads : goal.returns-clause-reads

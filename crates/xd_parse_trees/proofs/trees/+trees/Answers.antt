@@ -1,12 +1,13 @@
 use Rattle.std.proofs.Common.{true, length, arith, refl, sym, ap, ◌∙◌, subst}
 use Rattle.std.proofs.lemmas.Result.{IfOk-weaker}
+use Rattle.xd_syntax.proofs.TableRows.{KeepsRows-trans}
 use Rattle.xd_grammar.specs.declared.grammar.Sort.{Sort}
 use Rattle.xd_grammar.specs.declared.grammar.Nonterminal.TheVariants as n
 use Rattle.xd_grammar.specs.declared.grammar.Terminal.TheVariants as t
 use Rattle.xd_parse_trees.specs.Reading.{SpellNo, ReadsExcepted, element_row}
 use Rattle.xd_parse_trees.proofs.ByteOrder.{class_made}
 use Rattle.xd_parse_trees.proofs.Rows.{behind_le, next_lt, next_lt_at, front_same}
-use Rattle.xd_parse_trees.proofs.Kept.{KeepsRows-refl, KeepsRows-trans}
+use Rattle.xd_parse_trees.proofs.Kept.{KeepsRows-refl}
 use Rattle.xd_parse_trees.proofs.StandLemmas.{stand_stays}
 use Rattle.xd_parse_trees.proofs.NodeRows.{branches_start, branches_on, tree_read, parts_start, parts_on, branch_read, content_empty_read, content_full_read, group_empty_read, group_full_read, element_read, part_read, word_read, texts_read, exception_read, group_read, none_read, unbound_read, variable_read, bound_read, any_read}
 use Rattle.xd_parse_trees.proofs.trees.+trees.Goals as goal

@@ -1,5 +1,5 @@
 use Rattle.std.proofs.lemmas.Result.{IfOk-weaker}
-use Rattle.xd_parse_trees.proofs.Kept.{KeepsRows-trans}
+use Rattle.xd_syntax.proofs.TableRows.{KeepsRows-trans}
 use Rattle.xd_parse_trees.proofs.trees.add_element.Goals as goal
 
 pub returns-clause-adds : goal.returns-clause-adds

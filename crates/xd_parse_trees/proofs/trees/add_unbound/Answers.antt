@@ -1,8 +1,9 @@
 use Rattle.std.proofs.Common.{ℕ, List, subst}
 use Rattle.std.proofs.lemmas.Result.{IfOk-weaker}
 use Rattle.xd_syntax.specs.Placed.{Name_at}
+use Rattle.xd_syntax.proofs.TableRows.{KeepsRows-trans}
 use Rattle.xd_parse_trees.specs.Nodes.{IsAdded}
-use Rattle.xd_parse_trees.proofs.Kept.{KeepsRows-refl, KeepsRows-trans}
+use Rattle.xd_parse_trees.proofs.Kept.{KeepsRows-refl}
 use Rattle.xd_parse_trees.proofs.trees.add_unbound.Goals as goal
 
 pub returns-clause-adds : goal.returns-clause-adds

@@ -1,10 +1,11 @@
 use Rattle.std.proofs.Common.{ap, sym, ◌∙◌, subst}
 use Rattle.std.proofs.lemmas.Result.{IfOk-weaker}
 use Rattle.xd_syntax.specs.PlacedTable.{placed_at, placed_form}
+use Rattle.xd_syntax.proofs.TableRows.{KeepsRows-trans}
 use Rattle.xd_parse_trees.specs.Nodes.{shape, is_operator, Merges}
 use Rattle.xd_parse_trees.specs.Pieces.{pieces}
 use Rattle.xd_parse_trees.proofs.NodeRows.{operator_read, operator_not_read}
-use Rattle.xd_parse_trees.proofs.Kept.{KeepsRows-refl, KeepsRows-trans}
+use Rattle.xd_parse_trees.proofs.Kept.{KeepsRows-refl}
 use Rattle.xd_parse_trees.proofs.trees.read_operator.Goals as goal
 
 pub returns-then-is_operator-clause-reads : goal.returns-then-is_operator-clause-reads

@@ -1,7 +1,7 @@
 use Rattle.std.proofs.Common.{◌+◌, ◌∷◌, drop, ap, sym, ◌∙◌}
 use Rattle.std.proofs.lemmas.List.{drop_more}
+use Rattle.xd_doc.proofs.Lists.{drop_past}
 use Rattle.xd_patterns.specs.Variables.{put_each}
-use Rattle.xd_patterns.proofs.VariableLemmas.{drop_past}
 use Rattle.xd_patterns.proofs.compiled.put_words.Goals as goal
 
 pub loop-word-preserved : goal.loop-word-preserved

@@ -1,14 +1,13 @@
 use Rattle.std.proofs.Common.{◌++◌, ◌∷◌, [], take, get_or, ap, sym, subst, ◌∙◌}
 use Rattle.std.specs.List.{AllByRecursion}
 use Rattle.std.proofs.lemmas.List.{take_more, take_all}
+use Rattle.xd_doc.proofs.Lists.{all_get, all_append}
 use Rattle.xd_meaning.specs.Bindings.{variables_of}
 use Rattle.xd_syntax.specs.Patterns.{pattern_tree}
 use Rattle.xd_syntax.specs.declared.patterns.PatternId.{PatternId}
-use Rattle.xd_continuations.proofs.MoveLemmas.{all_append}
 use Rattle.xd_patterns.specs.CompiledProgram.{AreWithin, IsLinearPattern, each_variables, variables_of_patterns}
 use Rattle.xd_patterns.specs.Variables.{put_each}
 use Rattle.xd_patterns.specs.declared.compiled.PatternVariables.{PatternVariables}
-use Rattle.xd_patterns.proofs.Pairing.{each_at}
 use Rattle.xd_patterns.proofs.Together.{all_within_put, each_push, variables_push, within_new}
 use Rattle.xd_patterns.proofs.compiled.variables_of_all.Goals as goal
 
@@ -17,7 +16,7 @@ no_id = record { at = 0 }
 
 pub variables-requires : goal.variables-requires
 unfolding no_id
-variables-requires c = (each_at (IsLinearPattern c.args.patterns.now) c.args.ids.now c.loop-id.id-index no_id c.requires c.loop-id-test.true).there
+variables-requires c = (all_get (IsLinearPattern c.args.patterns.now) c.args.ids.now c.loop-id.id-index no_id c.requires c.loop-id-test.true).there
 
 pub loop-id-init : goal.loop-id-init
 loop-id-init c = record { each = ap each_variables c.new-each.ensures.items; all = tt }

@@ -1,12 +1,13 @@
 use Rattle.std.proofs.Common.{◌+◌, ◌++◌, ◌∷◌, drop, ap, sym, ◌∙◌}
 use Rattle.std.proofs.lemmas.List.{drop_more}
+use Rattle.xd_doc.proofs.Lists.{drop_past}
 use Rattle.xd_meaning.specs.Bindings.{each_once}
 use Rattle.xd_syntax.specs.Tree.{occurrences}
 use Rattle.xd_syntax.specs.Placed.{variables}
 use Rattle.xd_syntax.specs.PlacedTable.{placed_at}
 use Rattle.xd_syntax.proofs.PlacedTrees.{unplaced_at}
 use Rattle.xd_patterns.specs.Variables.{put_each}
-use Rattle.xd_patterns.proofs.VariableLemmas.{puts_once, drop_past}
+use Rattle.xd_patterns.proofs.VariableLemmas.{puts_once}
 use Rattle.xd_patterns.proofs.variables.variables.Goals as goal
 
 pub loop-word-preserved : goal.loop-word-preserved

@@ -1,11 +1,13 @@
 use Rattle.std.proofs.Common.{◌&&◌, ap, subst, sym, ◌∙◌}
 use Rattle.xd_doc.specs.Classes.{class_has}
+use Rattle.xd_doc.proofs.Bools.{and_and_false}
+use Rattle.xd_doc.proofs.Lists.{all_step}
 use Rattle.xd_boole.specs.Choices.{AllChoices, IsChoiceOf, any_choice, choice_refuses}
 use Rattle.xd_points.specs.Points.{parts_accept}
-use Rattle.xd_boole.proofs.DifferenceLemmas.{and_nothing, both_more}
+use Rattle.xd_boole.proofs.DifferenceLemmas.{both_more}
 use Rattle.xd_points.proofs.GrowsLemmas.{adds_like, adds_none, adds_then}
 use Rattle.xd_boole.proofs.Bools.{part_group}
-use Rattle.xd_boole.proofs.Lists.{all_step, any_walked}
+use Rattle.xd_boole.proofs.Lists.{any_walked}
 use Rattle.xd_points.proofs.moves.add_group.Goals as goal
 
 pub loop-choice-init : goal.loop-choice-init
@@ -13,7 +15,7 @@ loop-choice-init c =
     let a = c.args.auto.now in let b = c.args.patterns.now in
     record {
       adds = adds_none c.requires.whole c.requires.leads
-          (λ q. and_nothing (class_has c.args.group.now.class q.label) (parts_accept a b q.content q.rest c.args.parts));
+          (λ q. and_and_false (class_has c.args.group.now.class q.label) (parts_accept a b q.content q.rest c.args.parts));
       left = subst (AllChoices b.taken.auto) (sym c.deref-choice-items.ensures.value) c.requires.group;
     }
 

@@ -1,8 +1,8 @@
 use Rattle.std.proofs.Common.{◌≡◌, ◌++◌, ◌∷◌, [], List, ap, sym, ◌∙◌, subst}
 use Rattle.std.specs.List.{AllByRecursion}
+use Rattle.xd_doc.proofs.Bools.{and_left, and_right}
 use Rattle.xd_auto.specs.Automaton.{IsState, accepts}
 use Rattle.xd_boole.specs.Meaning.{any_accepts, is_state}
-use Rattle.xd_boole.proofs.Bools.{and_left, and_right}
 use Rattle.xd_boole.proofs.AnyAcceptsLemmas.{state_is, states_are}
 use Rattle.xd_doc.specs.Classes.{LabelClass, class_has}
 use Rattle.xd_auto.specs.declared.auto.LabelMove.{LabelMove}

@@ -1,11 +1,11 @@
 use Rattle.std.proofs.Common.{◌≡◌, ◌||◌, take, List, ap, arith, subst, sym, ◌∙◌}
 use Rattle.std.specs.List.{list_any}
+use Rattle.xd_doc.proofs.Bools.{and_left, and_right}
 use Rattle.xd_auto.specs.declared.auto.State.{State}
 use Rattle.xd_auto.specs.Automaton.{IsState, moves_at}
 use Rattle.xd_boole.specs.Meaning.{any_accepts, element_of, move_takes}
 use Rattle.xd_boole.specs.Groups.{is_side, label_side, side_accepts}
 use Rattle.xd_boole.specs.Refusals.{LeadInside}
-use Rattle.xd_boole.proofs.Bools.{and_left, and_right}
 use Rattle.xd_points.specs.Meaning.{PointView}
 use Rattle.xd_points.proofs.PatternMoveLemmas.{before_same}
 use Rattle.xd_points.proofs.moves.refusing_moves.Goals as goal

@@ -1,14 +1,16 @@
 use Rattle.std.proofs.Common.{refl, ◌≡◌, ◌<◌, ◌&&◌, ◌||◌, not, Bool, ℕ, take, List, [], length, get_or, ap, sym, subst, ◌∙◌}
 use Rattle.std.specs.List.{All, AllByRecursion, list_any}
+use Rattle.xd_doc.proofs.Bools.{and_join}
+use Rattle.xd_doc.proofs.Lists.{one_at}
 use Rattle.xd_auto.specs.Automaton.{accepts, moves_at}
 use Rattle.xd_boole.specs.Groups.{passes_at}
 use Rattle.xd_boole.proofs.DifferenceLemmas.{left_more}
 use Rattle.xd_boole.proofs.Lists.{all_at, any_walked, at_itself}
+use Rattle.xd_boole.proofs.MatchLemmas.{passes_there}
 use Rattle.xd_points.specs.Meaning.{PointView}
 use Rattle.xd_points.specs.Points.{AddsMoves, LeadsAs, taken_before}
-use Rattle.xd_points.proofs.MeetLemmas.{and_join}
 use Rattle.xd_points.proofs.GrowsLemmas.{adds_like, adds_none, adds_then}
-use Rattle.xd_points.proofs.PatternMoveLemmas.{met_tell, one_at, passes_item}
+use Rattle.xd_points.proofs.PatternMoveLemmas.{met_tell}
 use Rattle.xd_points.proofs.moves.steps.Goals as goal
 
 pub loop-number-init : goal.loop-number-init
@@ -36,7 +38,7 @@ loop-number-preserved g c =
     adds_then c.loop-number.invariant c.in_ok-add_meet.ensures
     (λ q.
     ap (λ w. (list_any (passes_at (takes a q) ones) (take i numbers) && (takes b.auto q two && rest q)) || w)
-    (sym (and_join (takes a q one) (takes b.auto q two) (rest q)) ∙ ap (λ w. w && (takes b.auto q two && rest q)) (sym (passes_item (takes a q) ones k one within c.index-ones-number.is)))
+    (sym (and_join (takes a q one) (takes b.auto q two) (rest q)) ∙ ap (λ w. w && (takes b.auto q two && rest q)) (sym (passes_there (takes a q) ones k one within c.index-ones-number.is)))
     ∙ left_more (passes_at (takes a q) ones) numbers i k (takes b.auto q two && rest q) c.loop-number-test.true (at_itself numbers i 0 c.loop-number-test.true))
 
 pub add_meet-requires : goal.add_meet-requires

@@ -1,14 +1,14 @@
 use Rattle.std.proofs.Common.{◌≡◌, ℕ, ◌++◌, ◌∷◌, [], length, arith, refl, subst, sym, length-append, ap}
-use Rattle.xd_auto.proofs.ExtendsLemmas.{Extends-same}
+use Rattle.xd_auto.proofs.ExtendsLemmas.{Extends-same, extends_then}
 use Rattle.xd_points.specs.Placing.{IsBareAt, IsPlaceOf}
-use Rattle.xd_points.proofs.PlaceLemmas.{extends_trans, keeps_more, keeps_none, more_bare, more_places, places_none}
+use Rattle.xd_points.proofs.PlaceLemmas.{keeps_more, keeps_none, more_bare, more_places, places_none}
 use Rattle.xd_points.proofs.placing.add_places.Goals as goal
 
 pub returns-in_err-place-clause-extends : goal.returns-in_err-place-clause-extends
-returns-in_err-place-clause-extends c = extends_trans c.args.auto.now c.loop-number.auto' c.place_of.new.auto c.loop-number.invariant.extends c.place_of.ensures.extends
+returns-in_err-place-clause-extends c = extends_then c.args.auto.now c.loop-number.auto' c.place_of.new.auto c.loop-number.invariant.extends c.place_of.ensures.extends
 
 pub returns-in_err-push-clause-extends : goal.returns-in_err-push-clause-extends
-returns-in_err-push-clause-extends c = extends_trans c.args.auto.now c.loop-number.auto' c.place_of.new.auto c.loop-number.invariant.extends c.place_of.ensures.extends
+returns-in_err-push-clause-extends c = extends_then c.args.auto.now c.loop-number.auto' c.place_of.new.auto c.loop-number.invariant.extends c.place_of.ensures.extends
 
 pub loop-number-preserved : goal.loop-number-preserved
 loop-number-preserved c =
@@ -33,7 +33,7 @@ loop-number-preserved c =
       kept = keeps_more start places c.push.new.self.items w is h.kept;
       places = more_places tk old mid new p known h.extends c.place_of.ensures.extends base places c.push.new.self.items w is h.places h.bare there bare_there;
       bare = more_bare tk old mid new p known h.extends c.place_of.ensures.extends base places c.push.new.self.items w is h.places h.bare there bare_there;
-      extends = extends_trans old mid new h.extends c.place_of.ensures.extends;
+      extends = extends_then old mid new h.extends c.place_of.ensures.extends;
     }
 
 pub loop-number-init : goal.loop-number-init

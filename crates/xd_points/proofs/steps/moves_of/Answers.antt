@@ -1,5 +1,6 @@
 use Rattle.std.proofs.Common.{ℕ, ◌<◌, ◌≤◌, ◌+◌, ◌&&◌, ◌++◌, ◌≡◌, Bool, not, take, map, List, [], length, ap, sym, subst, ◌∙◌}
 use Rattle.std.specs.List.{list_any}
+use Rattle.xd_doc.proofs.Bools.{and_false}
 use Rattle.xd_auto.specs.Automaton.{accepts, moves_at}
 use Rattle.xd_boole.specs.Groups.{passes_at}
 use Rattle.xd_boole.specs.Meaning.{any_accepts}
@@ -8,7 +9,7 @@ use Rattle.xd_points.specs.FirstRuns.{place_before}
 use Rattle.xd_points.specs.Points.{AddsMoves, LeadsAs, StandForMoves, taken_before}
 use Rattle.xd_points.proofs.ArePointsLemmas.{grows_same}
 use Rattle.xd_points.proofs.GrowsLemmas.{grows_trans, keeps, means_stay}
-use Rattle.xd_points.proofs.StandForMovesLemmas.{none_taken, one_more, passes_walked, stand_for, stand_like, stand_then}
+use Rattle.xd_points.proofs.StandForMovesLemmas.{one_more, passes_walked, stand_for, stand_like, stand_then}
 use Rattle.xd_points.proofs.PatternMoveLemmas.{place_of}
 use Rattle.xd_points.proofs.steps.moves_of.Goals as goal
 
@@ -29,7 +30,7 @@ loop-number-init g c =
       grows = grows_same p;
       stand = subst (λ (ms : List g.row.M.Denot). StandForMoves states means xs p ms c.new-numbers.result.items all) (sym c.new-moves.ensures.items)
           (subst (λ (ns : List ℕ). StandForMoves states means xs p [] ns all) (sym c.new-numbers.ensures.items)
-          (record { steps = tt; taken = λ n q. sym (none_taken (accepts a (document q) of.left)) }));
+          (record { steps = tt; taken = λ n q. sym (and_false (accepts a (document q) of.left)) }));
     }
 
 pub loop-number-preserved : goal.loop-number-preserved

@@ -1,4 +1,5 @@
-use Rattle.std.proofs.Common.{◌≡◌, ◌+◌, ◌∙◌, ◌<◌, arith, List, Bool, length, ap, sym, subst, Result, Ok, Err, OnOk}
+use Rattle.std.proofs.Common.{◌≡◌, ◌+◌, ◌∙◌, ◌<◌, arith, List, Bool, length, ap, sym, subst}
+use Rattle.xd_doc.proofs.Results.{on_ok}
 use Rattle.xd_syntax.specs.Kept.{program_tree}
 use Rattle.xd_syntax.specs.Program.{names_of}
 use Rattle.xd_syntax.specs.declared.types.TypeId.{TypeId}
@@ -9,10 +10,6 @@ use Rattle.xd_proof_check.proofs.AcceptLemmas.{marks_decide, stands}
 use Rattle.xd_proof_check.proofs.GoalLemmas.{goal_found, goal_refused}
 use Rattle.xd_proof_check.proofs.HeadLemmas.{numbers_within, rights_fit}
 use Rattle.xd_proof_check.proofs.check.check_goal.Goals as goal
-
-on_ok : {T E : Type 0} (r : Result T E) (P : Type 0) → P → OnOk r P
-on_ok (Ok x) P h = h
-on_ok (Err e) P h = tt
 
 pub returns-then-not-empty_stands-clause-found : goal.returns-then-not-empty_stands-clause-found
 returns-then-not-empty_stands-clause-found c =

@@ -1,5 +1,6 @@
 use Rattle.std.proofs.Common.{◌+◌, ◌∙◌, drop, ap, sym, subst, arith, length}
 use Rattle.std.specs.Option.{IfNone, option_map}
+use Rattle.xd_doc.proofs.Lists.{all_get}
 use Rattle.xd_proof.specs.LinesFit.{LinesFit}
 use Rattle.xd_proof_check.specs.Leaves.{GoalBelongs}
 use Rattle.xd_syntax.specs.Kept.{program_tree}
@@ -8,7 +9,6 @@ use Rattle.xd_meaning.specs.Breach.{goals_of}
 use Rattle.xd_proof.specs.Kept.{AreTrees}
 use Rattle.xd_proof_check.specs.GoalWalk.{breach_of}
 use Rattle.xd_proof_check.specs.Paths.{IsClear}
-use Rattle.xd_proof_check.proofs.HeadLemmas.{all_get}
 use Rattle.xd_laws.proofs.FirstWrong.{or_next, wrong_goals}
 use Rattle.xd_proof_check.proofs.AcceptLemmas.{claims_of}
 use Rattle.xd_proof_check.proofs.GoalLemmas.{goals_step, lined_long, none_drop}

@@ -1,7 +1,7 @@
 use Rattle.std.proofs.Common.{◌++◌, ◌∷◌, ◌∙◌, [], ap, map, sym}
 use Rattle.std.proofs.lemmas.List.{take_all}
+use Rattle.xd_doc.proofs.Lists.{map-take_more}
 use Rattle.xd_heads.specs.declared.lister.NumberedHead.{NumberedHead}
-use Rattle.xd_proof_check.proofs.HeadLemmas.{map-take_more}
 use Rattle.xd_proof_check.proofs.check.content_numbers.Goals as goal
 
 pub loop-head-preserved : goal.loop-head-preserved

@@ -1,11 +1,12 @@
 use Rattle.std.proofs.lemmas.List.{take_all}
 use Rattle.std.proofs.Common.{◌∙◌, length, subst, ◌<◌}
+use Rattle.xd_doc.proofs.Lists.{all_get}
 use Rattle.xd_proof_check.specs.GoalHeads.{AreHeadsOf}
 use Rattle.xd_syntax.specs.Kept.{program_tree}
 use Rattle.xd_syntax.specs.Program.{names_of}
 use Rattle.xd_syntax.specs.declared.types.TypeId.{TypeId}
 use Rattle.xd_continuations.proofs.ChainLemmas.{kept_then}
-use Rattle.xd_proof_check.proofs.HeadLemmas.{heads_more, all_get}
+use Rattle.xd_proof_check.proofs.HeadLemmas.{heads_more}
 use Rattle.xd_proof_check.proofs.heads.heads_of_all.Goals as goal
 
 no_type : TypeId

@@ -1,9 +1,10 @@
 use Rattle.std.proofs.Common.{◌≡◌, ℕ, ◌<◌, true, take, length, sym, subst}
 use Rattle.std.specs.List.{AllByRecursion}
+use Rattle.xd_doc.proofs.Lists.{all_taken}
 use Rattle.xd_goals.specs.Reached.{HasTreeWithin}
 use Rattle.xd_goals.specs.declared.table.Choice.{Choice}
 use Rattle.xd_proof_make.specs.Met.{IsMet, IsStepTo, LeadsTo}
-use Rattle.xd_proof_make.proofs.IsMetLemmas.{meets-then, met-kept, leads-kept, leads-steps, steps-lead, steps-within, all_more, all_get}
+use Rattle.xd_proof_make.proofs.IsMetLemmas.{meets-then, met-kept, leads-kept, leads-steps, steps-lead, steps-within, all_get}
 use Rattle.xd_proof_make.proofs.reach.meet_choices.Goals as goal
 
 pub meet_steps-requires : goal.meet_steps-requires
@@ -20,7 +21,7 @@ loop-choice-preserved c =
     let tree = all_get (λ (k : Choice). HasTreeWithin c.args.table.now.nodes n k.root) c.args.choices.now c.loop-choice.choice-index c.choice-item.result c.loop-choice-test.true c.choice-item.is c.requires in
     record {
       more = meets-then c.args.met.now.order.items c.args.met.now.numbers.items c.loop-choice.met.order.items c.loop-choice.met.numbers.items c.meet_steps.new.met.order.items c.meet_steps.new.met.numbers.items i.more c.meet_steps.ensures.more;
-      ok = all_more (LeadsTo c.args.table.now.nodes (IsMet c.meet_steps.new.met.numbers.items)) c.args.choices.now c.loop-choice.choice-index c.choice-item.result c.loop-choice-test.true c.choice-item.is
+      ok = all_taken (LeadsTo c.args.table.now.nodes (IsMet c.meet_steps.new.met.numbers.items)) c.args.choices.now c.loop-choice.choice-index c.choice-item.result c.loop-choice-test.true c.choice-item.is
           (leads-kept c.args.table.now.nodes (IsMet c.loop-choice.met.numbers.items) (IsMet c.meet_steps.new.met.numbers.items)
           (met-kept c.loop-choice.met.order.items c.loop-choice.met.numbers.items c.meet_steps.new.met.order.items c.meet_steps.new.met.numbers.items c.meet_steps.ensures.more) (take c.loop-choice.choice-index c.args.choices.now) i.ok)
           (leads-steps c.args.table.now.nodes (IsMet c.meet_steps.new.met.numbers.items) c.choice-item.result c.in_ok-steps.steps.items c.in_ok-steps.ensures

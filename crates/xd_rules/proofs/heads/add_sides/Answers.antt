@@ -1,9 +1,9 @@
+use Rattle.xd_doc.proofs.Results.{OnOk-map}
 use Rattle.xd_rules.proofs.Sides.{count_heads_of}
 use Rattle.std.proofs.Common.{arith}
 use Rattle.std.proofs.Common.{◌+◌, List, length, ap, refl}
 use Rattle.xd_auto.specs.declared.auto.LabelMove.{LabelMove}
 use Rattle.xd_rules.specs.declared.atom.Atom.TheVariants.{Label, OtherLabel, Text, OtherText}
-use Rattle.xd_rules.proofs.Results.{OnOk-map}
 use Rattle.xd_rules.proofs.Sides.{at_label, at_text}
 use Rattle.xd_rules.proofs.heads.add_sides.Goals as goal
 

@@ -1,9 +1,9 @@
 use Rattle.std.proofs.Common.{map}
+use Rattle.xd_doc.proofs.Lists.{all_parts}
 use Rattle.xd_auto.specs.Automaton.{moves_at}
 use Rattle.xd_rules.specs.Moves.{label_head, text_head}
 use Rattle.xd_rules.specs.Wants.{IsHeadNamed, names_in}
 use Rattle.xd_rules.proofs.IsHeadNamedLemmas.{both_kinds}
-use Rattle.xd_rules.proofs.Lists.{all_parts}
 use Rattle.xd_rules.proofs.heads.cases_of.Goals as goal
 
 pub add_cases-requires-clause-named : goal.add_cases-requires-clause-named

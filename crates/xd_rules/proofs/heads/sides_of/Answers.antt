@@ -1,10 +1,10 @@
 use Rattle.std.proofs.Common.{List, refl, sym, ap, subst, ◌∙◌}
 use Rattle.std.specs.List.{flat_map}
+use Rattle.xd_doc.proofs.Lists.{all_get}
 use Rattle.xd_auto.specs.Automaton.{IsState}
 use Rattle.xd_auto.specs.declared.auto.State.{State}
 use Rattle.xd_rules.specs.Moves.{heads_of}
 use Rattle.xd_rules.specs.Wants.{matching_sides}
-use Rattle.xd_rules.proofs.Lists.{all_get}
 use Rattle.std.proofs.lemmas.List.{take_all}
 use Rattle.xd_rules.proofs.Sides.{rights_more, count_more}
 use Rattle.xd_rules.proofs.heads.sides_of.Goals as goal

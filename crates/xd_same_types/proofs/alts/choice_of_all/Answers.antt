@@ -1,11 +1,12 @@
 use Rattle.std.proofs.Common.{◌⊎◌, ◌<◌, ◌||◌, ◌∷◌, [], inl, inr, length, take, get_or, sym, ap, ◌∙◌, subst}
 use Rattle.std.proofs.lemmas.List.{take_all}
+use Rattle.xd_doc.proofs.Lists.{all_there}
 use Rattle.xd_syntax.specs.TreeForms.{alt_of}
 use Rattle.xd_syntax.specs.Types.{BelongsTo, tree}
 use Rattle.xd_same_types.specs.Same.{AddsFits, IsChoice, trees}
 use Rattle.xd_same_types.proofs.AltLaws.{choice_again, choice_more, some_stays}
 use Rattle.xd_same_types.proofs.Ids.{got, take_read}
-use Rattle.xd_same_types.proofs.Tables.{all_get, keeps_then, kept_tree, trees_append}
+use Rattle.xd_same_types.proofs.Tables.{keeps_then, kept_tree, trees_append}
 use Rattle.xd_same_types.proofs.alts.choice_of_all.Goals as goal
 
 pub loop-id-init : goal.loop-id-init
@@ -34,7 +35,7 @@ loop-id-preserved c =
     let k = c.loop-id.id-index in
     let id = get_or items k (record { at = 0 }) in
     let e = got items k _ c.loop-id-test.true in
-    let b = all_get (BelongsTo rows) items k id c.requires.more c.loop-id-test.true e in
+    let b = all_there (BelongsTo rows) items k id c.requires.more c.loop-id-test.true e in
     record {
       keeps = keeps_then _ _ _ inv.keeps c.add_choice.ensures.keeps;
       parts = c.in_ok-also.ensures.parts;

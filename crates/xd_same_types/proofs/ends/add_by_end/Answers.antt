@@ -1,11 +1,12 @@
 use Rattle.std.proofs.Common.{get_or, sym, subst}
 use Rattle.std.specs.Option.{IfSome}
+use Rattle.xd_doc.proofs.Lists.{all_push}
 use Rattle.xd_syntax.specs.Types.{tree}
 use Rattle.xd_same_types.specs.Joints.{IsJoint}
 use Rattle.xd_same_types.specs.Same.{AddsFit, AreAltParts, trees}
 use Rattle.xd_same_types.proofs.AltSteps.{push_alternative, put_alternative, put_parts}
 use Rattle.xd_same_types.proofs.Ids.{got}
-use Rattle.xd_same_types.proofs.Tables.{all_with, keeps_refl, kept_alt_part, kept_alt_parts}
+use Rattle.xd_same_types.proofs.Tables.{keeps_refl, kept_alt_part, kept_alt_parts}
 use Rattle.xd_same_types.proofs.ends.add_by_end.Goals as goal
 
 pub returns-in-Some-clause-fits : goal.returns-in-Some-clause-fits
@@ -41,4 +42,4 @@ returns-in_ok-push-in-None-clause-parts c =
     let rows = c.args.pool.now.types in
     let new = c.joined_by_end.new.pool.types in
     subst (AreAltParts new) (sym c.in_ok-push-in-None.ensures.items)
-    (all_with _ parts c.args.next (kept_alt_parts rows new c.joined_by_end.ensures.keeps parts c.requires.parts) (kept_alt_part rows new c.joined_by_end.ensures.keeps c.args.next c.requires.next))
+    (all_push _ parts c.args.next (kept_alt_parts rows new c.joined_by_end.ensures.keeps parts c.requires.parts) (kept_alt_part rows new c.joined_by_end.ensures.keeps c.args.next c.requires.next))

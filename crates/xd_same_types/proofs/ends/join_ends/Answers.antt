@@ -1,8 +1,9 @@
 use Rattle.std.proofs.Common.{[], get_or}
+use Rattle.xd_doc.proofs.Lists.{all_there}
 use Rattle.xd_syntax.specs.Table.{IsAltPart}
 use Rattle.xd_same_types.proofs.AltSteps.{more_alternatives}
 use Rattle.xd_same_types.proofs.Ids.{got}
-use Rattle.xd_same_types.proofs.Tables.{keeps_then, kept_alt_part, all_get}
+use Rattle.xd_same_types.proofs.Tables.{keeps_then, kept_alt_part}
 use Rattle.xd_same_types.proofs.ends.join_ends.Goals as goal
 
 pub add_by_end-requires-clause-next : goal.add_by_end-requires-clause-next
@@ -10,7 +11,7 @@ add_by_end-requires-clause-next c =
     let items = c.args.parts.now in
     let k = c.loop-next.next-index in
     let part = get_or items k (record { at = 0 }) in
-    kept_alt_part _ _ c.loop-next.invariant.keeps part (all_get (λ id. IsAltPart c.args.pool.now.types id.at) items k part c.requires c.loop-next-test.true (got items k _ c.loop-next-test.true))
+    kept_alt_part _ _ c.loop-next.invariant.keeps part (all_there (λ id. IsAltPart c.args.pool.now.types id.at) items k part c.requires c.loop-next-test.true (got items k _ c.loop-next-test.true))
 
 pub loop-next-preserved : goal.loop-next-preserved
 loop-next-preserved c =

@@ -1,5 +1,6 @@
 use Rattle.std.proofs.Common.{sym, ◌∙◌}
-use Rattle.xd_same_types.proofs.EndLaws.{ends_joined, some_map}
+use Rattle.xd_doc.proofs.Options.{some_map}
+use Rattle.xd_same_types.proofs.EndLaws.{ends_joined}
 use Rattle.xd_same_types.proofs.Ids.{ok_map}
 use Rattle.xd_same_types.proofs.ends.joined_end.Goals as goal
 

@@ -1,7 +1,8 @@
 use Rattle.std.proofs.Common.{rules, ◌≡◌, ◌-◌, true, length, arith}
+use Rattle.xd_doc.proofs.Lists.{all_take}
 use Rattle.xd_same_types.proofs.Ids.{end_of}
 use Rattle.xd_same_types.proofs.SeqLaws.{gathered}
-use Rattle.xd_same_types.proofs.Tables.{kept_seq_parts, all_take}
+use Rattle.xd_same_types.proofs.Tables.{kept_seq_parts}
 use Rattle.xd_same_types.proofs.seqs.gather.Goals as goal
 
 pub returns-in_err-plus-clause-parts : goal.returns-in_err-plus-clause-parts

@@ -1,8 +1,9 @@
 use Rattle.std.proofs.Common.{◌++◌, ◌∷◌, [], take, sym, ap, ◌∙◌, subst}
+use Rattle.xd_doc.proofs.Lists.{all_push, all_take}
 use Rattle.xd_syntax.specs.Tree.{seq_of}
 use Rattle.xd_same_types.specs.Same.{AreSeqParts, EndsRepeated, MeansSame, trees}
 use Rattle.xd_same_types.proofs.SeqLaws.{repeated_last, plus_part}
-use Rattle.xd_same_types.proofs.Tables.{all_take, all_with, kept_seq_parts}
+use Rattle.xd_same_types.proofs.Tables.{kept_seq_parts}
 use Rattle.xd_same_types.proofs.seqs.gather_back.Goals as goal
 
 pub returns-clause-same : goal.returns-clause-same
@@ -24,4 +25,4 @@ returns-clause-parts c =
     let k = c.in-Some.place in
     let e = c.in_ok-push.ensures.items ∙ ap (λ xs. xs ++ c.in_ok-plus.plus ∷ []) c.truncate.ensures.items in
     subst (AreSeqParts new) (sym e)
-    (all_with _ (take k parts) c.in_ok-plus.plus (kept_seq_parts rows new c.node.ensures.keeps (take k parts) (all_take _ k parts c.requires)) (plus_part new c.in_ok-plus.plus _ c.in_ok-plus.ensures.belongs c.in_ok-plus.ensures.tree))
+    (all_push _ (take k parts) c.in_ok-plus.plus (kept_seq_parts rows new c.node.ensures.keeps (take k parts) (all_take _ k parts c.requires)) (plus_part new c.in_ok-plus.plus _ c.in_ok-plus.ensures.belongs c.in_ok-plus.ensures.tree))

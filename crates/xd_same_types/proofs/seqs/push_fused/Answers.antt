@@ -1,12 +1,13 @@
 use Rattle.std.proofs.Common.{◌≡◌, ◌-◌, suc, get_or, length, subst, arith}
 use Rattle.std.specs.Option.{IfSome}
+use Rattle.xd_doc.proofs.Lists.{all_push, all_take}
 use Rattle.xd_syntax.specs.Tree.{Seq}
 use Rattle.xd_syntax.specs.Types.{tree}
 use Rattle.xd_same_types.specs.Same.{MeansSame}
 use Rattle.xd_syntax.specs.Table.{IsSeqPart}
 use Rattle.xd_same_types.proofs.Ids.{not_zero}
 use Rattle.xd_same_types.proofs.SeqLaws.{fused_last, pushed_part}
-use Rattle.xd_same_types.proofs.Tables.{kept_seq_parts, kept_seq_part, kept_tree, all_take, all_with, last_split}
+use Rattle.xd_same_types.proofs.Tables.{kept_seq_parts, kept_seq_part, kept_tree, last_split}
 use Rattle.xd_same_types.proofs.seqs.push_fused.Goals as goal
 
 pub returns-in_err-one-clause-parts : goal.returns-in_err-one-clause-parts
@@ -32,7 +33,7 @@ pub returns-in_ok-push-in-Some-clause-parts : goal.returns-in_ok-push-in-Some-cl
 returns-in_ok-push-in-Some-clause-parts c =
     let part = subst (λ o. IfSome o (λ id. IsSeqPart c.fused.new.pool.types id.at)) c.in-Some.is c.in_ok-one.ensures.part in
     rw c.in_ok-push-in-Some.ensures.items (rw c.truncate.ensures.items
-    (all_with _ _ c.in-Some.one (all_take _ (c.len-in-Some.result - 1) c.args.parts.now.items (kept_seq_parts _ _ c.fused.ensures.keeps c.args.parts.now.items c.requires.parts)) part))
+    (all_push _ _ c.in-Some.one (all_take _ (c.len-in-Some.result - 1) c.args.parts.now.items (kept_seq_parts _ _ c.fused.ensures.keeps c.args.parts.now.items c.requires.parts)) part))
 
 pub returns-in_ok-push-in-None-clause-same : goal.returns-in_ok-push-in-None-clause-same
 returns-in_ok-push-in-None-clause-same c =
@@ -40,4 +41,4 @@ returns-in_ok-push-in-None-clause-same c =
 
 pub returns-in_ok-push-in-None-clause-parts : goal.returns-in_ok-push-in-None-clause-parts
 returns-in_ok-push-in-None-clause-parts c =
-    rw c.in_ok-push-in-None.ensures.items (all_with _ c.args.parts.now.items c.args.next (kept_seq_parts _ _ c.fused.ensures.keeps c.args.parts.now.items c.requires.parts) (kept_seq_part _ _ c.fused.ensures.keeps c.args.next c.requires.next))
+    rw c.in_ok-push-in-None.ensures.items (all_push _ c.args.parts.now.items c.args.next (kept_seq_parts _ _ c.fused.ensures.keeps c.args.parts.now.items c.requires.parts) (kept_seq_part _ _ c.fused.ensures.keeps c.args.next c.requires.next))

@@ -1,10 +1,11 @@
 use Rattle.std.proofs.Common.{get_or, sym, ap, ◌∙◌, subst}
+use Rattle.xd_doc.proofs.Lists.{all_there}
 use Rattle.xd_syntax.specs.Table.{IsSeqPart}
 use Rattle.xd_syntax.specs.Tree.{seq_of}
 use Rattle.xd_same_types.specs.Same.{AreSeqParts, trees}
 use Rattle.xd_same_types.proofs.Ids.{got}
 use Rattle.xd_same_types.proofs.SeqLaws.{seq_first, seq_more}
-use Rattle.xd_same_types.proofs.Tables.{keeps_refl, keeps_then, kept_seq_part, all_get}
+use Rattle.xd_same_types.proofs.Tables.{keeps_refl, keeps_then, kept_seq_part}
 use Rattle.xd_same_types.proofs.seqs.seq.Goals as goal
 
 pub loop-part-init : goal.loop-part-init
@@ -21,7 +22,7 @@ push_part-requires-clause-next c =
     let inv = c.loop-part.invariant in
     let items = c.deref-part-items.result.now in
     let part = get_or items c.loop-part.part-index (record { at = 0 }) in
-    kept_seq_part _ _ inv.keeps part (all_get (λ id. IsSeqPart c.args.pool.now.types id.at) items c.loop-part.part-index part inv.others c.loop-part-test.true (got items c.loop-part.part-index _ c.loop-part-test.true))
+    kept_seq_part _ _ inv.keeps part (all_there (λ id. IsSeqPart c.args.pool.now.types id.at) items c.loop-part.part-index part inv.others c.loop-part-test.true (got items c.loop-part.part-index _ c.loop-part-test.true))
 
 pub loop-part-preserved : goal.loop-part-preserved
 loop-part-preserved c =

@@ -1,11 +1,12 @@
 use Rattle.std.proofs.Common.{◌<◌, length, get_or, sym, ap, ◌∙◌, subst}
 use Rattle.std.proofs.lemmas.List.{take_all}
+use Rattle.xd_doc.proofs.Lists.{all_there}
 use Rattle.xd_syntax.specs.TreeForms.{alt_of}
 use Rattle.xd_syntax.specs.Types.{BelongsTo}
 use Rattle.xd_same_types.specs.Same.{AreAltParts, AreStripped, trees}
 use Rattle.xd_same_types.proofs.Ids.{got}
 use Rattle.xd_same_types.proofs.StarLaws.{stripped_none, strip_more, stripped_star}
-use Rattle.xd_same_types.proofs.Tables.{keeps_refl, keeps_then, kept_belongs, alt_belong, all_get, some_trees}
+use Rattle.xd_same_types.proofs.Tables.{keeps_refl, keeps_then, kept_belongs, alt_belong, some_trees}
 use Rattle.xd_same_types.proofs.stars.repeated_parts.Goals as goal
 
 pub loop-part-init : goal.loop-part-init
@@ -22,7 +23,7 @@ add_stripped-requires-clause-part c =
     let items = c.deref-part-items.result.now in
     let k = c.loop-part.part-index in
     let part = get_or items k (record { at = 0 }) in
-    kept_belongs _ _ inv.keeps part (all_get (BelongsTo c.args.pool.now.types) items k part (alt_belong _ items inv.parts) c.loop-part-test.true (got items k _ c.loop-part-test.true))
+    kept_belongs _ _ inv.keeps part (all_there (BelongsTo c.args.pool.now.types) items k part (alt_belong _ items inv.parts) c.loop-part-test.true (got items k _ c.loop-part-test.true))
 
 pub loop-part-preserved : goal.loop-part-preserved
 loop-part-preserved c =

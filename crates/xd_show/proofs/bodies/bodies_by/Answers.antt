@@ -1,8 +1,8 @@
 use Rattle.std.proofs.Common.{◌≡◌, ◌+◌, ◌<◌, ◌∷◌, [], length, get_or, sym, ap, ◌∙◌, subst, arith}
+use Rattle.xd_doc.proofs.Lists.{length_push}
 use Rattle.xd_auto.specs.declared.auto.State.{State}
 use Rattle.xd_syntax.specs.Words.{any_word}
 use Rattle.xd_same_types.proofs.Ids.{got}
-use Rattle.xd_show_solve.proofs.PlaceLaws.{pushed_length}
 use Rattle.xd_show.proofs.ContentLaws.{AreBodiesBelow, bodies_more, known_at, names_by, names_then}
 use Rattle.xd_show.proofs.bodies.bodies_by.Goals as goal
 
@@ -27,7 +27,7 @@ loop-number-preserved c =
     let items = c.in_ok-push.ensures.items in
     record {
       grows = names_then (any_word ∷ words) old mid new inv.grows (names_by (any_word ∷ w ∷ []) (any_word ∷ words) mid new (λ known h. (h.0, known_at known words k w l c.index-names-number.is h.1)) c.body_of.ensures.grows);
-      count = ap length items ∙ pushed_length made id ∙ ap (λ n. n + 1) inv.count;
+      count = ap length items ∙ length_push made id ∙ ap (λ n. n + 1) inv.count;
       each = subst (λ xs. AreBodiesBelow a words named old written new xs (k + 1)) (sym items)
           (bodies_more a words named old mid new written made k w s id inv.grows.rows c.body_of.ensures.grows.rows c.requires.belong inv.count l m c.index-names-number.is (got named k none m) inv.each c.in_ok-body.ensures.body);
     }

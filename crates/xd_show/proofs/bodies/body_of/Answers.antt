@@ -1,9 +1,10 @@
 use Rattle.std.proofs.Common.{[], ◌∷◌, codes, false, subst}
+use Rattle.xd_doc.proofs.Options.{some_holds}
 use Rattle.xd_syntax.specs.Types.{BelongsTo}
 use Rattle.xd_same_types.proofs.Ids.{ok_map}
 use Rattle.xd_show_solve.specs.Levels.{IsStateType, MeansAny}
 use Rattle.xd_show.specs.Contents.{MeansAnyAnd}
-use Rattle.xd_show.proofs.ContentLaws.{nones_found, some_holds, type_by, type_of_state}
+use Rattle.xd_show.proofs.ContentLaws.{nones_found, type_by, type_of_state}
 use Rattle.xd_show.proofs.bodies.body_of.Goals as goal
 
 pub returns-in-Some-clause-body : goal.returns-in-Some-clause-body

@@ -1,7 +1,8 @@
 use Rattle.std.proofs.Common.{sym, subst, ◌<◌}
+use Rattle.xd_doc.proofs.Options.{some_holds}
 use Rattle.xd_show_solve.specs.Levels.{MeansAny}
 use Rattle.xd_show.specs.Contents.{IsTypeOf}
-use Rattle.xd_show.proofs.ContentLaws.{contents_grown, contents_set, some_holds}
+use Rattle.xd_show.proofs.ContentLaws.{contents_grown, contents_set}
 use Rattle.xd_show.proofs.contents.write_in_place.Goals as goal
 
 pub returns-in-Some-clause-contents : goal.returns-in-Some-clause-contents

@@ -1,9 +1,10 @@
 use Rattle.std.proofs.Common.{sym, subst, get_or, [], ◌∷◌, length, ◌<◌, arith}
+use Rattle.xd_doc.proofs.Lists.{all_there}
 use Rattle.xd_auto.specs.Automaton.{state_number}
 use Rattle.xd_auto.specs.declared.auto.State.{State}
 use Rattle.xd_same_types.proofs.Ids.{got}
 use Rattle.xd_show.specs.Contents.{MeansState, MeansStates}
-use Rattle.xd_show.proofs.ContentLaws.{all_there, contents_by, contents_then, known_at, names_by, names_then, written_more}
+use Rattle.xd_show.proofs.ContentLaws.{contents_by, contents_then, known_at, names_by, names_then, written_more}
 use Rattle.xd_show.proofs.contents.write_names.Goals as goal
 
 pub write_name-requires-clause-within : goal.write_name-requires-clause-within

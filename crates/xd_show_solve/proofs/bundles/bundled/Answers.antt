@@ -1,5 +1,6 @@
 use Rattle.std.proofs.Common.{get_or, sym, subst}
 use Rattle.std.proofs.lemmas.List.{take_all}
+use Rattle.xd_doc.proofs.Lists.{all_but_last}
 use Rattle.xd_syntax.specs.Types.{BelongsTo}
 use Rattle.xd_same_types.proofs.Ids.{got, take_read}
 use Rattle.xd_show_solve.specs.Bundles.{bundles_in}
@@ -7,7 +8,6 @@ use Rattle.xd_show_solve.specs.Equations.{SameSide, TermsStand, product_in, prod
 use Rattle.xd_show_solve.specs.declared.sums.Term.{Term}
 use Rattle.xd_show_solve.proofs.ShortLaws.{same_more}
 use Rattle.xd_show_solve.proofs.SideLaws.{a_side}
-use Rattle.xd_show_solve.proofs.SolveLaws.{all_last}
 use Rattle.xd_show_solve.proofs.SumSteps.{take_products}
 use Rattle.xd_show_solve.proofs.bundles.bundled.Goals as goal
 
@@ -22,7 +22,7 @@ loop-term-preserved c =
       same = λ types o. subst (λ ps. SameSide (a_side ps o) (a_side (bundles_in types c.add_bundled.new.bundles.items) o)) (sym (take_products types items k term c.loop-term-test.true at))
           (same_more (a_side (bundles_in types c.loop-term.bundles.items) o) _ _ o (product_in types term) (inv.same types o) (c.in_ok-add_bundled.ensures.adds types o));
       stand = λ types h.
-          let l = all_last (λ (u : Term). BelongsTo types u.by) _ term (subst (TermsStand types) (take_read items k term c.loop-term-test.true at) h) in
+          let l = all_but_last (λ (u : Term). BelongsTo types u.by) _ term (subst (TermsStand types) (take_read items k term c.loop-term-test.true at) h) in
           c.in_ok-add_bundled.ensures.stand types (inv.stand types l.0) l.1;
     }
 

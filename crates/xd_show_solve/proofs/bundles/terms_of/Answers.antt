@@ -1,9 +1,9 @@
 use Rattle.std.proofs.Common.{◌∷◌, ◌+◌, take, refl, sym, subst}
 use Rattle.std.proofs.lemmas.List.{take_all}
+use Rattle.xd_doc.proofs.Lists.{all_push}
 use Rattle.xd_syntax.specs.TreeForms.{alt_of}
 use Rattle.xd_syntax.specs.Types.{BelongsTo, tree}
 use Rattle.xd_same_types.specs.Same.{MeansSame, trees}
-use Rattle.xd_same_types.proofs.Facts.{all_push}
 use Rattle.xd_same_types.proofs.Tables.{keeps_then}
 use Rattle.xd_show_solve.specs.Bundles.{bundles_in}
 use Rattle.xd_show_solve.specs.Equations.{SameSide, TermsStand, products}

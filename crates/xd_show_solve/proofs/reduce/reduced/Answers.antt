@@ -1,7 +1,7 @@
 use Rattle.std.proofs.Common.{◌≡◌, ◌∙◌, ◌+◌, length, sym, ap, subst, arith}
+use Rattle.xd_doc.proofs.Lists.{length_push}
 use Rattle.xd_show_solve.specs.Equations.{side_in}
 use Rattle.xd_show_solve.specs.Systems.{AllStand}
-use Rattle.xd_show_solve.proofs.PlaceLaws.{pushed_length}
 use Rattle.xd_show_solve.proofs.ReduceLaws.{AllRewritten, all_reduce, all_rewritten_more, all_stand_kept, all_stand_more, rewrites_back}
 use Rattle.xd_same_types.proofs.Tables.{keeps_then}
 use Rattle.xd_show_solve.proofs.reduce.reduced.Goals as goal
@@ -23,7 +23,7 @@ loop-number-preserved c =
     let e = sym c.in_ok-push.ensures.items in
     record {
       keeps = keeps_then _ _ _ inv.keeps c.rewritten.ensures.keeps;
-      count = ap length c.in_ok-push.ensures.items ∙ pushed_length made sum ∙ ap (λ n. n + 1) inv.count;
+      count = ap length c.in_ok-push.ensures.items ∙ length_push made sum ∙ ap (λ n. n + 1) inv.count;
       stand = subst (AllStand new) e (all_stand_more now new c.rewritten.ensures.keeps made sum inv.stand c.in_ok-sum.ensures.stands);
       rewritten = subst (AllRewritten rows new ss) e (all_rewritten_more rows now new c.rewritten.ensures.keeps ss made sum k (sym inv.count) inv.stand inv.rewritten back);
     }

@@ -1,11 +1,11 @@
 use Rattle.std.proofs.Common.{sym, subst}
 use Rattle.xd_show_solve.specs.Rounds.{AreApart, AreOwns, LeavesAlive, OwnsStand, TakesEach}
 use Rattle.xd_show_solve.proofs.RoundLaws.{owns_stand, takes_none, takes_some}
-use Rattle.xd_show_solve.proofs.SystemLaws.{stand_kept}
 use Rattle.xd_show_solve.proofs.rounds.take_cheap.Goals as goal
+use Rattle.xd_show_solve.proofs.ReduceLaws.{all_stand_kept}
 
 pub take_out-requires-clause-sums : goal.take_out-requires-clause-sums
-take_out-requires-clause-sums c = stand_kept _ _ c.owns_of.ensures.keeps c.args.sums.now.items c.requires.sums
+take_out-requires-clause-sums c = all_stand_kept _ _ c.owns_of.ensures.keeps c.args.sums.now.items c.requires.sums
 
 pub take_out-requires-clause-owns : goal.take_out-requires-clause-owns
 take_out-requires-clause-owns c =
@@ -34,4 +34,4 @@ pub returns-clause-out : goal.returns-clause-out
 returns-clause-out c = takes_none _ _ c.owns_of.ensures.keeps c.args.sums.now.items c.args.alive.now.items c.requires.sums
 
 pub returns-clause-stand : goal.returns-clause-stand
-returns-clause-stand c = stand_kept _ _ c.owns_of.ensures.keeps c.args.sums.now.items c.requires.sums
+returns-clause-stand c = all_stand_kept _ _ c.owns_of.ensures.keeps c.args.sums.now.items c.requires.sums

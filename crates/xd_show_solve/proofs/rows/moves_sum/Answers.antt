@@ -1,10 +1,11 @@
 use Rattle.std.proofs.Common.{◌++◌, sym, ap, ◌∙◌, subst}
+use Rattle.xd_doc.proofs.Lists.{all_append}
 use Rattle.xd_syntax.specs.Types.{BelongsTo}
 use Rattle.xd_show_solve.specs.Equations.{TermsStand, own_in, products}
 use Rattle.xd_show_solve.specs.Levels.{AreLabelProducts, AreTextProducts, IsStateSide, last_tree}
 use Rattle.xd_show_solve.specs.declared.sums.Term.{Term}
 use Rattle.xd_show_solve.proofs.SideLaws.{a_side}
-use Rattle.xd_show_solve.proofs.StateSides.{all_append, state_side}
+use Rattle.xd_show_solve.proofs.StateSides.{state_side}
 use Rattle.xd_show_solve.proofs.SumSteps.{products_append, products_kept, terms_kept}
 use Rattle.xd_same_types.proofs.Tables.{keeps_then}
 use Rattle.xd_show_solve.proofs.rows.moves_sum.Goals as goal

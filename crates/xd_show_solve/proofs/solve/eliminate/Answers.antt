@@ -1,14 +1,15 @@
 use Rattle.std.proofs.Common.{◌<◌, ◌≤◌, length, arith}
-use Rattle.xd_show_solve.proofs.SystemLaws.{replaces_first_none, replaces_first_more, takes_out, stand_kept}
+use Rattle.xd_show_solve.proofs.SystemLaws.{replaces_first_none, replaces_first_more, takes_out}
 use Rattle.xd_show_solve.proofs.SumSteps.{stands_kept}
 use Rattle.xd_same_types.proofs.Tables.{keeps_refl, keeps_then}
 use Rattle.xd_show_solve.proofs.solve.eliminate.Goals as goal
+use Rattle.xd_show_solve.proofs.ReduceLaws.{all_stand_kept}
 
 pub loop-number-init : goal.loop-number-init
 loop-number-init c = record {
   start = c.solved.ensures.keeps;
   keeps = keeps_refl _;
-  stand = stand_kept _ _ c.solved.ensures.keeps c.args.sums.now.items c.requires.sums;
+  stand = all_stand_kept _ _ c.solved.ensures.keeps c.args.sums.now.items c.requires.sums;
   own = c.in_ok-own.ensures.stands;
   replaced = replaces_first_none _ _ c.args.gone c.in_ok-own.own c.args.sums.now.items;
 }

@@ -1,11 +1,11 @@
 use Rattle.std.proofs.Common.{◌∙◌, ◌<◌, ◌+◌, length, sym, ap, subst, arith}
+use Rattle.xd_doc.proofs.Lists.{length_push}
 use Rattle.xd_auto.specs.Automaton.{moves_at}
 use Rattle.xd_show_solve.specs.Equations.{side_in}
 use Rattle.xd_show_solve.specs.Levels.{AreStateSums, IsReady, IsStateSide}
 use Rattle.std.specs.List.{AllByRecursion}
 use Rattle.xd_show_solve.specs.Systems.{AllStand}
 use Rattle.xd_show_solve.proofs.LevelLaws.{written_stay}
-use Rattle.xd_show_solve.proofs.PlaceLaws.{pushed_length}
 use Rattle.xd_show_solve.proofs.ReduceLaws.{all_stand_more}
 use Rattle.xd_show_solve.proofs.StateTypes.{all_ready, state_sums_more}
 use Rattle.xd_same_types.proofs.Tables.{keeps_then}
@@ -43,7 +43,7 @@ loop-number-preserved c =
     let side = subst (λ ps. IsStateSide a now written ps s (side_in new t)) c.deref.ensures.value c.in_ok-sum.ensures.side in
     record {
       keeps = keeps_then _ _ _ inv.keeps c.state_sum.ensures.keeps;
-      count = ap length c.in_ok-push.ensures.items ∙ pushed_length sums t ∙ ap (λ n. n + 1) inv.count;
+      count = ap length c.in_ok-push.ensures.items ∙ length_push sums t ∙ ap (λ n. n + 1) inv.count;
       stand = subst (AllStand new) e (all_stand_more now new c.state_sum.ensures.keeps sums t inv.stand c.in_ok-sum.ensures.stands);
       sums = subst (AreStateSums a rows written places states new) e
           (state_sums_more a rows now new inv.keeps c.state_sum.ensures.keeps written places states sums k s t c.requires.written inv.stand (sym inv.count) l c.index-state.ensures inv.sums side);

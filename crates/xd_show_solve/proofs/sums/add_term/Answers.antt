@@ -1,12 +1,12 @@
 use Rattle.std.proofs.Common.{◌≡◌, ◌<◌, [], ◌∷◌, ◌++◌, length, get_or, set, refl, sym, ap, ◌∙◌, subst, arith}
 use Rattle.std.specs.Option.{IfSome}
 use Rattle.std.specs.Vec.{with_item}
+use Rattle.xd_doc.proofs.Lists.{all_push, all_set, all_there}
 use Rattle.xd_syntax.specs.Types.{BelongsTo}
 use Rattle.xd_show_solve.specs.declared.sums.Term.{Term}
 use Rattle.xd_show_solve.specs.declared.sums.Sum.{Sum}
-use Rattle.xd_same_types.proofs.Facts.{all_set, all_push}
 use Rattle.xd_show_solve.proofs.SumSteps.{term_put, term_pushed, terms_kept, constant_stays}
-use Rattle.xd_same_types.proofs.Tables.{keeps_then, kept_belongs, all_get}
+use Rattle.xd_same_types.proofs.Tables.{keeps_then, kept_belongs}
 use Rattle.xd_show_solve.proofs.sums.add_term.Goals as goal
 
 pub alt-requires-clause-one : goal.alt-requires-clause-one
@@ -16,7 +16,7 @@ alt-requires-clause-one c =
     let old = c.index-old.result.now in
     let l : k < length c.args.sum.now.terms.items = omega (arith, c.len-number-end.ensures, c.args.sum.now.terms.ok.0) in
     let e = subst (λ xs. old ≡ get_or xs k old) inv.terms c.index-old.ensures in
-    kept_belongs _ _ inv.keeps old.by (all_get (λ (u : Term). BelongsTo c.args.pool.now.types u.by) c.args.sum.now.terms.items k old c.requires.sum.terms l e)
+    kept_belongs _ _ inv.keeps old.by (all_there (λ (u : Term). BelongsTo c.args.pool.now.types u.by) c.args.sum.now.terms.items k old c.requires.sum.terms l e)
 
 pub alt-requires-clause-two : goal.alt-requires-clause-two
 alt-requires-clause-two c = kept_belongs _ _ c.loop-number.invariant.keeps c.args.term.by c.requires.term

@@ -4,7 +4,7 @@ use Rattle.xd_doc.proofs.CopyLemmas.{none_contained}
 use Rattle.xd_syntax.specs.Types.{type_numbers}
 use Rattle.xd_syntax.specs.Nodes.{parts_of}
 use Rattle.xd_syntax.specs.declared.types.TypeId.{TypeId}
-use Rattle.xd_sound.proofs.Reached.{Waits, waits, takes, walk_begins, walk_again, walk_on, walk_ends, lighter_again, lighter_on}
+use Rattle.xd_sound.proofs.Reached.{Waits, waits, walk_begins, walk_again, walk_on, walk_ends, lighter_again, lighter_on, takes}
 use Rattle.xd_syntax.proofs.NodeParts.{parts_viewed}
 use Rattle.xd_sound.proofs.adopt.reached_from.Goals as goal
 

@@ -1,5 +1,6 @@
 use Rattle.std.proofs.Common.{◌+◌, ◌++◌, arith, ap, ◌∙◌}
-use Rattle.xd_write.proofs.WriteLemmas.{on_err, written_same, written_more, written_part, run_none, run_more, escaped_all-drop}
+use Rattle.xd_doc.proofs.Results.{on_err}
+use Rattle.xd_write.proofs.WriteLemmas.{written_same, written_more, written_part, run_none, run_more, escaped_all-drop}
 use Rattle.xd_write.proofs.text.write_escaped.Goals as goal
 use Rattle.xd_write.proofs.text.write_escaped.Goals.{in-Some+in_ok-extend_from_slice+in_ok-extend_from_slice-2, in_default}
 

@@ -3,7 +3,8 @@ use Rattle.xd_doc.specs.Document.{items_text, size, comma_before, escaped_all}
 use Rattle.xd_doc.specs.DocumentCode.{rest_of, content_of}
 use Rattle.xd_doc.specs.Stored.{document_at}
 use Rattle.xd_doc.proofs.StoredLemmas.{belong-push, belong-front}
-use Rattle.xd_write.proofs.WriteLemmas.{closing, is_text, is_element, is_empty, closing-push, weight-push, on_err, written_part, piece_part, piece_written, pieces_written, label_part, label_written}
+use Rattle.xd_doc.proofs.Results.{on_err}
+use Rattle.xd_write.proofs.WriteLemmas.{closing, is_text, is_element, is_empty, closing-push, weight-push, written_part, piece_part, piece_written, pieces_written, label_part, label_written}
 use Rattle.xd_write.proofs.write.write_items.Goals as goal
 
 pub loop-outers-smaller-in-Continue-branch-2 : goal.loop-outers-smaller-in-Continue-branch-2

@@ -1,6 +1,7 @@
 use Rattle.std.proofs.Common.{[], ap, sym, ◌∙◌}
+use Rattle.xd_doc.proofs.Results.{OnErr-holds}
 use Rattle.xd_auto.specs.Index.{numbers_of}
-use Rattle.xd_auto.proofs.IsIndexLemmas.{numbers_kept, numbers_put, is_some_found, OnErr-holds}
+use Rattle.xd_auto.proofs.IsIndexLemmas.{numbers_kept, numbers_put, is_some_found}
 use Rattle.xd_auto.proofs.auto.index.put.Goals as goal
 
 pub returns-in_err-push-in-Some-clause-err : goal.returns-in_err-push-in-Some-clause-err

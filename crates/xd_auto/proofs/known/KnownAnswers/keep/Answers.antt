@@ -1,7 +1,8 @@
 use Rattle.std.proofs.Common.{◌≤◌, ◌∙◌, arith, get_or, vec_capacity}
 use Rattle.std.proofs.lemmas.List.{get_or_read}
+use Rattle.xd_doc.proofs.Results.{on_err}
 use Rattle.xd_auto.specs.Kept.{HasRoom, words_of}
-use Rattle.xd_auto.proofs.KeepsAnswerLemmas.{answer_from_same, keep_row, on_err, room_set, same_rows}
+use Rattle.xd_auto.proofs.KeepsAnswerLemmas.{answer_from_same, keep_row, room_set, same_rows}
 use Rattle.xd_auto.proofs.known.KnownAnswers.keep.Goals as goal
 
 pub returns-clause-ok : goal.returns-clause-ok

@@ -4,6 +4,9 @@ use Rattle.std.specs.List.{AllByRecursion}
 use Rattle.std.proofs.lemmas.List.{drop_all, get_or_default}
 use Rattle.std.proofs.lemmas.Result.{IfOk-from_err}
 use Rattle.xd_base.specs.declared.Place.{Place}
+use Rattle.xd_doc.proofs.StoredLemmas.{Keeps-same, Keeps-trans}
+use Rattle.xd_doc.proofs.Lists.{all_as}
+use Rattle.xd_doc.proofs.Options.{some_holds}
 use Rattle.xd_auto.specs.declared.auto.State.{State}
 use Rattle.xd_auto.specs.Automaton.{IsState, accepts}
 use Rattle.xd_syntax.specs.Kept.{ProgramTable, program_tree}
@@ -20,6 +23,7 @@ use Rattle.xd_clauses.specs.Compiled.{IsNumbered}
 use Rattle.xd_clauses.specs.Behind.{StandsIn}
 use Rattle.xd_clauses.specs.declared.compiled.CompiledPatterns.{CompiledPatterns}
 use Rattle.xd_points.specs.Meaning.{ServePoints}
+use Rattle.xd_clauses.proofs.NumberedLemmas.{paired_length}
 use Rattle.xd_check.specs.InScope.{ScopeStands}
 use Rattle.xd_check.specs.Ready.{CanBeWalked, HasNumber, expr_at, patterns_among}
 use Rattle.xd_check.proofs.Numbered.{compiled_as, numbered_here, some_here, some_numbered}
@@ -33,12 +37,11 @@ use Rattle.xd_check.specs.Signed.{AreParameters, signature_of}
 use Rattle.xd_check.specs.Walked.{Grows, IsWalked}
 use Rattle.xd_check.proofs.ClauseLemmas.{clause_dead, clause_live, comes_first, live_from, live_to, walked_matched}
 use Rattle.xd_check.proofs.Arguments.{walked_called}
-use Rattle.xd_check.proofs.GrowsLemmas.{grows_then, keeps_same, keeps_then, scope_kept}
+use Rattle.xd_check.proofs.GrowsLemmas.{grows_then, scope_kept}
 use Rattle.xd_check.proofs.IsKnownLemmas.{known_kept, known_learnt}
 use Rattle.xd_check.proofs.ClauseLoop.{ClausesLoop, clause_here, clauses_loop_begin, clauses_loop_end, clauses_loop_more, stands_on}
 use Rattle.xd_check.proofs.AreStatesLemmas.{clause_left, clause_scope, clause_states, parameter_states}
 use Rattle.xd_check.proofs.Loops.{PartsLoop, argument_here, arguments_begin, arguments_end, arguments_more, bodies, bodies_below, ceiling, ceiling_again, ceiling_within, part_here, parts_begin, parts_end, parts_more}
-use Rattle.xd_check.proofs.Lists.{all_as, if_some, paired_count}
 use Rattle.xd_check.proofs.AcceptedInTurnLemmas.{joined_none, never, new_moves}
 use Rattle.xd_check.proofs.IsReadyLemmas.{ready_kept, signed_none, signed_some, states_again}
 use Rattle.xd_check.proofs.Walkable.{expr_is, walk_arguments, walk_clauses, walk_content, walk_parts, walk_scrutinee}
@@ -126,8 +129,8 @@ in_expression-returns-in_ok-add_state-in-Empty t c =
       grows = record { extends = c.in_ok-add_state-in-Empty.ensures.extends; keeps = c.in_ok-add_state-in-Empty.ensures.keeps };
       known =
           let e = c.in_ok-add_state-in-Empty.ensures in
-          known_kept c.args.auto.now c.add_state.new.self c.args.store.now c.args.store.now c.args.known.now (record { extends = e.extends; keeps = e.keeps }) (keeps_same c.args.store.now) c.requires.known;
-      keeps = keeps_same c.args.store.now;
+          known_kept c.args.auto.now c.add_state.new.self c.args.store.now c.args.store.now c.args.known.now (record { extends = e.extends; keeps = e.keeps }) (Keeps-same c.args.store.now) c.requires.known;
+      keeps = Keeps-same c.args.store.now;
     }
 
 pub in_expression-returns-in_ok-text_state-in-Text : goal.in_expression-returns-in_ok-text_state-in-Text
@@ -143,8 +146,8 @@ in_expression-returns-in_ok-text_state-in-Text t c =
           (walked_quoted (program_tree p) S n.place c.in-Text.text c.text_state.new.auto c.args.store.now c.args.lines.now.items c.in_ok-text_state-in-Text.field-0 c.in_ok-text_state-in-Text.ensures.accepts);
       variables = refl;
       grows = c.in_ok-text_state-in-Text.ensures.grows;
-      known = known_kept c.args.auto.now c.text_state.new.auto c.args.store.now c.args.store.now c.args.known.now c.in_ok-text_state-in-Text.ensures.grows (keeps_same c.args.store.now) c.requires.known;
-      keeps = keeps_same c.args.store.now;
+      known = known_kept c.args.auto.now c.text_state.new.auto c.args.store.now c.args.store.now c.args.known.now c.in_ok-text_state-in-Text.ensures.grows (Keeps-same c.args.store.now) c.requires.known;
+      keeps = Keeps-same c.args.store.now;
     }
 
 pub in_expression-returns-in_ok-variable_state-in-Var : goal.in_expression-returns-in_ok-variable_state-in-Var
@@ -160,8 +163,8 @@ in_expression-returns-in_ok-variable_state-in-Var t c =
           (walked_variable (program_tree p) S n.place c.in-Var.word c.args.auto.now c.variable_state.new.auto c.args.variables.now c.args.store.now c.args.lines.now.items c.in_ok-variable_state-in-Var.field-0 stands c.in_ok-variable_state-in-Var.ensures.accepts);
       variables = refl;
       grows = c.in_ok-variable_state-in-Var.ensures.grows;
-      known = known_kept c.args.auto.now c.variable_state.new.auto c.args.store.now c.args.store.now c.args.known.now c.in_ok-variable_state-in-Var.ensures.grows (keeps_same c.args.store.now) c.requires.known;
-      keeps = keeps_same c.args.store.now;
+      known = known_kept c.args.auto.now c.variable_state.new.auto c.args.store.now c.args.store.now c.args.known.now c.in_ok-variable_state-in-Var.ensures.grows (Keeps-same c.args.store.now) c.requires.known;
+      keeps = Keeps-same c.args.store.now;
     }
 
 pub in_expression-returns-in_ok-wrap-in-Elem : goal.in_expression-returns-in_ok-wrap-in-Elem
@@ -180,7 +183,7 @@ in_expression-returns-in_ok-wrap-in-Elem t c =
       grows = grows_then c.args.auto.now c.in_expression.new.auto c.wrap.new.self c.in_ok-inside-in-Elem.ensures.grows (record { extends = c.in_ok-wrap-in-Elem.ensures.extends; keeps = c.in_ok-wrap-in-Elem.ensures.keeps });
       known =
           let e = c.in_ok-wrap-in-Elem.ensures in
-          known_kept c.in_expression.new.auto c.wrap.new.self c.in_expression.new.store c.in_expression.new.store c.in_expression.new.known (record { extends = e.extends; keeps = e.keeps }) (keeps_same c.in_expression.new.store)
+          known_kept c.in_expression.new.auto c.wrap.new.self c.in_expression.new.store c.in_expression.new.store c.in_expression.new.known (record { extends = e.extends; keeps = e.keeps }) (Keeps-same c.in_expression.new.store)
           c.in_ok-inside-in-Elem.ensures.known;
       keeps = c.in_expression.ensures.keeps;
     }
@@ -201,7 +204,7 @@ in_expression-returns-in_ok-join_states-in-Seq t c =
           c.in_ok-join_states-in-Seq.field-0 (c.in_ok-states-in-Seq.ensures.walked S stands) c.in_ok-join_states-in-Seq.ensures.accepts);
       variables = c.in_ok-states-in-Seq.ensures.variables;
       grows = grows_then c.args.auto.now c.in_parts.new.auto c.join_states.new.auto c.in_ok-states-in-Seq.ensures.grows c.in_ok-join_states-in-Seq.ensures.grows;
-      known = known_kept c.in_parts.new.auto c.join_states.new.auto c.in_parts.new.store c.in_parts.new.store c.in_parts.new.known c.in_ok-join_states-in-Seq.ensures.grows (keeps_same c.in_parts.new.store) c.in_ok-states-in-Seq.ensures.known;
+      known = known_kept c.in_parts.new.auto c.join_states.new.auto c.in_parts.new.store c.in_parts.new.store c.in_parts.new.known c.in_ok-join_states-in-Seq.ensures.grows (Keeps-same c.in_parts.new.store) c.in_ok-states-in-Seq.ensures.known;
       keeps = c.in_parts.ensures.keeps;
     }
 
@@ -380,7 +383,7 @@ in_expression-returns-in_ok-in_clauses-in-Match t c =
       variables = c.in_ok-in_clauses-in-Match.ensures.variables ∙ c.in_ok-value-in-Match.ensures.variables;
       grows = grows_then c.args.auto.now c.in_expression-in-Match.new.auto c.in_clauses.new.auto c.in_ok-value-in-Match.ensures.grows c.in_ok-in_clauses-in-Match.ensures.grows;
       known = c.in_ok-in_clauses-in-Match.ensures.known;
-      keeps = keeps_then c.args.store.now c.in_expression-in-Match.new.store c.in_clauses.new.store c.in_ok-value-in-Match.ensures.keeps c.in_clauses.ensures.keeps;
+      keeps = Keeps-trans c.args.store.now c.in_expression-in-Match.new.store c.in_clauses.new.store c.in_ok-value-in-Match.ensures.keeps c.in_clauses.ensures.keeps;
     }
 
 pub in_call-returns-in_ok-add_state-in-None : goal.in_call-returns-in_ok-add_state-in-None
@@ -407,7 +410,7 @@ in_call-returns-in_ok-add_state-in-None t c =
       known =
           let e = c.in_ok-add_state-in-None.ensures in
           known_kept c.in_arguments-in-None.new.auto c.add_state.new.self c.in_arguments-in-None.new.store c.in_arguments-in-None.new.store c.in_arguments-in-None.new.known (record { extends = e.extends; keeps = e.keeps })
-          (keeps_same c.in_arguments-in-None.new.store) c.in_ok-in_arguments-in-None.ensures.known;
+          (Keeps-same c.in_arguments-in-None.new.store) c.in_ok-in_arguments-in-None.ensures.known;
       keeps = c.in_arguments-in-None.ensures.keeps;
     }
 
@@ -416,7 +419,7 @@ in_match-see_uncovered-requires t c =
     let f = c.in_ok-left.ensures in
     record {
       arriving = f.belongs;
-      known = known_kept c.loop-number.auto' c.left_over.new.auto c.loop-number.store c.loop-number.store c.loop-number.known (record { extends = f.extends; keeps = f.accepting }) (keeps_same c.loop-number.store) c.loop-number.invariant.known;
+      known = known_kept c.loop-number.auto' c.left_over.new.auto c.loop-number.store c.loop-number.store c.loop-number.known (record { extends = f.extends; keeps = f.accepting }) (Keeps-same c.loop-number.store) c.loop-number.invariant.known;
     }
 
 pub in_match-unite_states-requires : goal.in_match-unite_states-requires
@@ -466,7 +469,7 @@ in_clause-in_expression-requires t c =
     let f = c.in_ok-found.ensures in
     let grows : Grows c.args.auto.now c.bindings.new.auto = record { extends = f.extends; keeps = f.accepting } in
     let gs = c.in-Some.givens.items in
-    let bound : AreMayGivens (names_of P) C [] Q c.bindings.new.auto gs = if_some (λ hs. (D : Definitions) (R : PlacedTree) → IsNumbered D (unplaced R) c.args.pattern.patterns.now c.args.pattern.number → AreMayGivens D C [] R c.bindings.new.auto hs.items) c.in_ok-found.found c.in-Some.givens c.in-Some.is f.bindings (names_of P) Q made in
+    let bound : AreMayGivens (names_of P) C [] Q c.bindings.new.auto gs = some_holds (λ hs. (D : Definitions) (R : PlacedTree) → IsNumbered D (unplaced R) c.args.pattern.patterns.now c.args.pattern.number → AreMayGivens D C [] R c.bindings.new.auto hs.items) c.in_ok-found.found c.in-Some.givens c.in-Some.is f.bindings (names_of P) Q made in
     let fallen : 4 * c.args.clause.body.at + 3 < t = omega arith in (
       fallen,
       (
@@ -494,8 +497,8 @@ in_clause-returns t c =
           let f = c.in_ok-found.ensures in
           let grows : Grows c.args.auto.now c.bindings.new.auto = record { extends = f.extends; keeps = f.accepting } in
           let gs = c.in-Some.givens.items in
-          let bound : AreMayGivens (names_of P) C [] Q c.bindings.new.auto gs = if_some (λ hs. (D : Definitions) (R : PlacedTree) → IsNumbered D (unplaced R) c.args.pattern.patterns.now c.args.pattern.number → AreMayGivens D C [] R c.bindings.new.auto hs.items) c.in_ok-found.found c.in-Some.givens c.in-Some.is f.bindings (names_of P) Q made in
-          let live : IsLiveIn P S e earlier Q = live_from P S e earlier C Q comes (if_some (λ hs. (D : Definitions) (R : PlacedTree) → IsNumbered D (unplaced R) c.args.pattern.patterns.now c.args.pattern.number → IsLive D C [] R) c.in_ok-found.found c.in-Some.givens c.in-Some.is f.live (names_of P) Q made) in
+          let bound : AreMayGivens (names_of P) C [] Q c.bindings.new.auto gs = some_holds (λ hs. (D : Definitions) (R : PlacedTree) → IsNumbered D (unplaced R) c.args.pattern.patterns.now c.args.pattern.number → AreMayGivens D C [] R c.bindings.new.auto hs.items) c.in_ok-found.found c.in-Some.givens c.in-Some.is f.bindings (names_of P) Q made in
+          let live : IsLiveIn P S e earlier Q = live_from P S e earlier C Q comes (some_holds (λ hs. (D : Definitions) (R : PlacedTree) → IsNumbered D (unplaced R) c.args.pattern.patterns.now c.args.pattern.number → IsLive D C [] R) c.in_ok-found.found c.in-Some.givens c.in-Some.is f.live (names_of P) Q made) in
           let inside = clause_scope P S e earlier C Q comes c.args.auto.now c.bindings.new.auto c.args.variables.now c.bring_in.new.variables gs grows c.requires.variables stands bound c.in_ok-bring_in.ensures in
           clause_live P S e earlier Q (expr_at p c.args.clause.body.at) c.in_expression.new.auto c.in_expression.new.store c.args.lines.now.items c.in_expression.new.lines.items c.in_ok-state.state live
           (c.in_ok-state.ensures.walked (clause_entry e earlier Q ∷ S) inside);
@@ -507,7 +510,7 @@ in_clause-returns t c =
           let f = c.in_ok-found.ensures in
           grows_then c.args.auto.now c.bindings.new.auto c.in_expression.new.auto (record { extends = f.extends; keeps = f.accepting }) c.in_ok-state.ensures.grows;
       known = c.in_ok-state.ensures.known;
-      keeps = keeps_then c.args.store.now c.bindings.new.store c.in_expression.new.store c.in_ok-found.ensures.keeps c.in_ok-state.ensures.keeps;
+      keeps = Keeps-trans c.args.store.now c.bindings.new.store c.in_expression.new.store c.in_ok-found.ensures.keeps c.in_ok-state.ensures.keeps;
     }
 
 pub in_call-in_arguments-requires : goal.in_call-in_arguments-requires
@@ -555,43 +558,43 @@ pub in_expression-returns-in_err-in_clauses-in-Match : goal.in_expression-return
 in_expression-returns-in_err-in_clauses-in-Match t c =
     let e = c.from_residual-in_err-in_clauses-in-Match.ensures.0 in
     let r = c.from_residual-in_err-in_clauses-in-Match.result in
-    record { belongs = IfOk-from_err r _ e; walked = IfOk-from_err r _ e; variables = IfOk-from_err r _ e; grows = IfOk-from_err r _ e; known = IfOk-from_err r _ e; keeps = keeps_then c.args.store.now c.in_expression-in-Match.new.store c.in_clauses.new.store c.in_ok-value-in-Match.ensures.keeps c.in_clauses.ensures.keeps }
+    record { belongs = IfOk-from_err r _ e; walked = IfOk-from_err r _ e; variables = IfOk-from_err r _ e; grows = IfOk-from_err r _ e; known = IfOk-from_err r _ e; keeps = Keeps-trans c.args.store.now c.in_expression-in-Match.new.store c.in_clauses.new.store c.in_ok-value-in-Match.ensures.keeps c.in_clauses.ensures.keeps }
 
 pub in_clause-returns-in_err-state : goal.in_clause-returns-in_err-state
 in_clause-returns-in_err-state t c =
     let e = c.from_residual-in_err-state.ensures.0 in
     let r = c.from_residual-in_err-state.result in
-    record { belongs = IfOk-from_err r _ e; walked = IfOk-from_err r _ e; variables = IfOk-from_err r _ e; grows = IfOk-from_err r _ e; known = IfOk-from_err r _ e; keeps = keeps_then c.args.store.now c.bindings.new.store c.in_expression.new.store c.in_ok-found.ensures.keeps c.in_expression.ensures.keeps }
+    record { belongs = IfOk-from_err r _ e; walked = IfOk-from_err r _ e; variables = IfOk-from_err r _ e; grows = IfOk-from_err r _ e; known = IfOk-from_err r _ e; keeps = Keeps-trans c.args.store.now c.bindings.new.store c.in_expression.new.store c.in_ok-found.ensures.keeps c.in_expression.ensures.keeps }
 
 pub in_parts-returns-in_err-state : goal.in_parts-returns-in_err-state
 in_parts-returns-in_err-state t c =
     let e = c.from_residual.ensures.0 in
     let r = c.from_residual.result in
-    record { belong = IfOk-from_err r _ e; walked = IfOk-from_err r _ e; variables = IfOk-from_err r _ e; grows = IfOk-from_err r _ e; known = IfOk-from_err r _ e; keeps = keeps_then c.args.store.now c.loop-part.store c.in_expression.new.store c.loop-part.invariant.walk.stays.keeps c.in_expression.ensures.keeps }
+    record { belong = IfOk-from_err r _ e; walked = IfOk-from_err r _ e; variables = IfOk-from_err r _ e; grows = IfOk-from_err r _ e; known = IfOk-from_err r _ e; keeps = Keeps-trans c.args.store.now c.loop-part.store c.in_expression.new.store c.loop-part.invariant.walk.stays.keeps c.in_expression.ensures.keeps }
 
 pub in_parts-returns-in_err-push : goal.in_parts-returns-in_err-push
 in_parts-returns-in_err-push t c =
     let e = c.from_residual-in_err-push.ensures.0 in
     let r = c.from_residual-in_err-push.result in
-    record { belong = IfOk-from_err r _ e; walked = IfOk-from_err r _ e; variables = IfOk-from_err r _ e; grows = IfOk-from_err r _ e; known = IfOk-from_err r _ e; keeps = keeps_then c.args.store.now c.loop-part.store c.in_expression.new.store c.loop-part.invariant.walk.stays.keeps c.in_expression.ensures.keeps }
+    record { belong = IfOk-from_err r _ e; walked = IfOk-from_err r _ e; variables = IfOk-from_err r _ e; grows = IfOk-from_err r _ e; known = IfOk-from_err r _ e; keeps = Keeps-trans c.args.store.now c.loop-part.store c.in_expression.new.store c.loop-part.invariant.walk.stays.keeps c.in_expression.ensures.keeps }
 
 pub in_arguments-returns-in_err-state : goal.in_arguments-returns-in_err-state
 in_arguments-returns-in_err-state t c =
     let e = c.from_residual.ensures.0 in
     let r = c.from_residual.result in
-    record { lines = IfOk-from_err r _ e; variables = IfOk-from_err r _ e; grows = IfOk-from_err r _ e; known = IfOk-from_err r _ e; keeps = keeps_then c.args.store.now c.loop-number.store c.in_expression.new.store c.loop-number.invariant.walk.stays.keeps c.in_expression.ensures.keeps }
+    record { lines = IfOk-from_err r _ e; variables = IfOk-from_err r _ e; grows = IfOk-from_err r _ e; known = IfOk-from_err r _ e; keeps = Keeps-trans c.args.store.now c.loop-number.store c.in_expression.new.store c.loop-number.invariant.walk.stays.keeps c.in_expression.ensures.keeps }
 
 pub in_match-returns-in_err-found : goal.in_match-returns-in_err-found
 in_match-returns-in_err-found t c =
     let e = c.from_residual-in_err-found.ensures.0 in
     let r = c.from_residual-in_err-found.result in
-    record { belongs = IfOk-from_err r _ e; walked = IfOk-from_err r _ e; variables = IfOk-from_err r _ e; grows = IfOk-from_err r _ e; known = IfOk-from_err r _ e; keeps = keeps_then c.args.store.now c.loop-number.store c.in_clause.new.store c.loop-number.invariant.walk.stays.keeps c.in_clause.ensures.keeps }
+    record { belongs = IfOk-from_err r _ e; walked = IfOk-from_err r _ e; variables = IfOk-from_err r _ e; grows = IfOk-from_err r _ e; known = IfOk-from_err r _ e; keeps = Keeps-trans c.args.store.now c.loop-number.store c.in_clause.new.store c.loop-number.invariant.walk.stays.keeps c.in_clause.ensures.keeps }
 
 pub in_match-returns-in_err-remaining : goal.in_match-returns-in_err-remaining
 in_match-returns-in_err-remaining t c =
     let e = c.from_residual.ensures.0 in
     let r = c.from_residual.result in
-    record { belongs = IfOk-from_err r _ e; walked = IfOk-from_err r _ e; variables = IfOk-from_err r _ e; grows = IfOk-from_err r _ e; known = IfOk-from_err r _ e; keeps = keeps_same c.args.store.now }
+    record { belongs = IfOk-from_err r _ e; walked = IfOk-from_err r _ e; variables = IfOk-from_err r _ e; grows = IfOk-from_err r _ e; known = IfOk-from_err r _ e; keeps = Keeps-same c.args.store.now }
 
 pub in_match-returns-in_err-coming : goal.in_match-returns-in_err-coming
 in_match-returns-in_err-coming t c =
@@ -603,7 +606,7 @@ pub in_match-returns-in_err-remaining-2 : goal.in_match-returns-in_err-remaining
 in_match-returns-in_err-remaining-2 t c =
     let e = c.from_residual-in_err-remaining-2.ensures.0 in
     let r = c.from_residual-in_err-remaining-2.result in
-    record { belongs = IfOk-from_err r _ e; walked = IfOk-from_err r _ e; variables = IfOk-from_err r _ e; grows = IfOk-from_err r _ e; known = IfOk-from_err r _ e; keeps = keeps_then c.args.store.now c.loop-number.store c.in_clause.new.store c.loop-number.invariant.walk.stays.keeps c.in_clause.ensures.keeps }
+    record { belongs = IfOk-from_err r _ e; walked = IfOk-from_err r _ e; variables = IfOk-from_err r _ e; grows = IfOk-from_err r _ e; known = IfOk-from_err r _ e; keeps = Keeps-trans c.args.store.now c.loop-number.store c.in_clause.new.store c.loop-number.invariant.walk.stays.keeps c.in_clause.ensures.keeps }
 
 pub in_match-returns-in_err-left : goal.in_match-returns-in_err-left
 in_match-returns-in_err-left t c =
@@ -615,37 +618,37 @@ pub in_match-returns-in_err-see_uncovered : goal.in_match-returns-in_err-see_unc
 in_match-returns-in_err-see_uncovered t c =
     let e = c.from_residual-in_err-see_uncovered.ensures.0 in
     let r = c.from_residual-in_err-see_uncovered.result in
-    record { belongs = IfOk-from_err r _ e; walked = IfOk-from_err r _ e; variables = IfOk-from_err r _ e; grows = IfOk-from_err r _ e; known = IfOk-from_err r _ e; keeps = keeps_then c.args.store.now c.loop-number.store c.see_uncovered.new.store c.loop-number.invariant.walk.stays.keeps c.see_uncovered.ensures.keeps }
+    record { belongs = IfOk-from_err r _ e; walked = IfOk-from_err r _ e; variables = IfOk-from_err r _ e; grows = IfOk-from_err r _ e; known = IfOk-from_err r _ e; keeps = Keeps-trans c.args.store.now c.loop-number.store c.see_uncovered.new.store c.loop-number.invariant.walk.stays.keeps c.see_uncovered.ensures.keeps }
 
 pub in_match-returns-in_err-unite_states : goal.in_match-returns-in_err-unite_states
 in_match-returns-in_err-unite_states t c =
     let e = c.from_residual-in_err-unite_states.ensures.0 in
     let r = c.from_residual-in_err-unite_states.result in
-    record { belongs = IfOk-from_err r _ e; walked = IfOk-from_err r _ e; variables = IfOk-from_err r _ e; grows = IfOk-from_err r _ e; known = IfOk-from_err r _ e; keeps = keeps_then c.args.store.now c.loop-number.store c.see_uncovered.new.store c.loop-number.invariant.walk.stays.keeps c.see_uncovered.ensures.keeps }
+    record { belongs = IfOk-from_err r _ e; walked = IfOk-from_err r _ e; variables = IfOk-from_err r _ e; grows = IfOk-from_err r _ e; known = IfOk-from_err r _ e; keeps = Keeps-trans c.args.store.now c.loop-number.store c.see_uncovered.new.store c.loop-number.invariant.walk.stays.keeps c.see_uncovered.ensures.keeps }
 
 pub in_arguments-returns-in_err-see_argument : goal.in_arguments-returns-in_err-see_argument
 in_arguments-returns-in_err-see_argument t c =
     let e = c.from_residual-in_err-see_argument.ensures.0 in
     let r = c.from_residual-in_err-see_argument.result in
-    record { lines = IfOk-from_err r _ e; variables = IfOk-from_err r _ e; grows = IfOk-from_err r _ e; known = IfOk-from_err r _ e; keeps = keeps_then c.args.store.now c.loop-number.store c.see_argument.new.store c.loop-number.invariant.walk.stays.keeps (keeps_then c.loop-number.store c.in_expression.new.store c.see_argument.new.store c.in_expression.ensures.keeps c.see_argument.ensures.keeps) }
+    record { lines = IfOk-from_err r _ e; variables = IfOk-from_err r _ e; grows = IfOk-from_err r _ e; known = IfOk-from_err r _ e; keeps = Keeps-trans c.args.store.now c.loop-number.store c.see_argument.new.store c.loop-number.invariant.walk.stays.keeps (Keeps-trans c.loop-number.store c.in_expression.new.store c.see_argument.new.store c.in_expression.ensures.keeps c.see_argument.ensures.keeps) }
 
 pub in_expression-returns-in_err-add_state-in-Empty : goal.in_expression-returns-in_err-add_state-in-Empty
 in_expression-returns-in_err-add_state-in-Empty t c =
     let e = c.from_residual.ensures.0 in
     let r = c.from_residual.result in
-    record { belongs = IfOk-from_err r _ e; walked = IfOk-from_err r _ e; variables = IfOk-from_err r _ e; grows = IfOk-from_err r _ e; known = IfOk-from_err r _ e; keeps = keeps_same c.args.store.now }
+    record { belongs = IfOk-from_err r _ e; walked = IfOk-from_err r _ e; variables = IfOk-from_err r _ e; grows = IfOk-from_err r _ e; known = IfOk-from_err r _ e; keeps = Keeps-same c.args.store.now }
 
 pub in_expression-returns-in_err-text_state-in-Text : goal.in_expression-returns-in_err-text_state-in-Text
 in_expression-returns-in_err-text_state-in-Text t c =
     let e = c.from_residual-in_err-text_state-in-Text.ensures.0 in
     let r = c.from_residual-in_err-text_state-in-Text.result in
-    record { belongs = IfOk-from_err r _ e; walked = IfOk-from_err r _ e; variables = IfOk-from_err r _ e; grows = IfOk-from_err r _ e; known = IfOk-from_err r _ e; keeps = keeps_same c.args.store.now }
+    record { belongs = IfOk-from_err r _ e; walked = IfOk-from_err r _ e; variables = IfOk-from_err r _ e; grows = IfOk-from_err r _ e; known = IfOk-from_err r _ e; keeps = Keeps-same c.args.store.now }
 
 pub in_expression-returns-in_err-variable_state-in-Var : goal.in_expression-returns-in_err-variable_state-in-Var
 in_expression-returns-in_err-variable_state-in-Var t c =
     let e = c.from_residual-in_err-variable_state-in-Var.ensures.0 in
     let r = c.from_residual-in_err-variable_state-in-Var.result in
-    record { belongs = IfOk-from_err r _ e; walked = IfOk-from_err r _ e; variables = IfOk-from_err r _ e; grows = IfOk-from_err r _ e; known = IfOk-from_err r _ e; keeps = keeps_same c.args.store.now }
+    record { belongs = IfOk-from_err r _ e; walked = IfOk-from_err r _ e; variables = IfOk-from_err r _ e; grows = IfOk-from_err r _ e; known = IfOk-from_err r _ e; keeps = Keeps-same c.args.store.now }
 
 pub in_expression-returns-in_err-inside-in-Elem : goal.in_expression-returns-in_err-inside-in-Elem
 in_expression-returns-in_err-inside-in-Elem t c =
@@ -748,7 +751,7 @@ pub in_clauses-returns-in_err-own : goal.in_clauses-returns-in_err-own
 in_clauses-returns-in_err-own t c =
     let e = c.from_residual.ensures.0 in
     let r = c.from_residual.result in
-    record { belongs = IfOk-from_err r _ e; walked = IfOk-from_err r _ e; variables = IfOk-from_err r _ e; grows = IfOk-from_err r _ e; known = IfOk-from_err r _ e; keeps = keeps_same c.args.store.now }
+    record { belongs = IfOk-from_err r _ e; walked = IfOk-from_err r _ e; variables = IfOk-from_err r _ e; grows = IfOk-from_err r _ e; known = IfOk-from_err r _ e; keeps = Keeps-same c.args.store.now }
 
 pub in_match-loop-number-init : goal.in_match-loop-number-init
 in_match-loop-number-init t c =
@@ -765,7 +768,7 @@ in_match-loop-number-init t c =
 
 pub in_match-bounds-compiled-number : goal.in_match-bounds-compiled-number
 in_match-bounds-compiled-number t c =
-    subst (λ n. c.loop-number.number < n) (paired_count (HasNumber c.args.compiled.patterns.now) c.args.compiled.clauses.now c.args.compiled.numbers.now c.requires.compiled.numbers) c.loop-number-test.true
+    subst (λ n. c.loop-number.number < n) (paired_length (HasNumber c.args.compiled.patterns.now) c.args.compiled.clauses.now c.args.compiled.numbers.now c.requires.compiled.numbers) c.loop-number-test.true
 
 pub in_match-coming_to-requires : goal.in_match-coming_to-requires
 in_match-coming_to-requires t c =
@@ -814,7 +817,7 @@ in_match-in_clause-requires t c =
                 a.belongs,
                 (
                   states_again c.args.auto.now c.coming_to.new.auto g c.args.variables.now c.loop-number.variables st.variables c.requires.variables,
-                  known_kept c.loop-number.auto' c.coming_to.new.auto c.loop-number.store c.loop-number.store c.loop-number.known one (keeps_same c.loop-number.store) c.loop-number.invariant.known,
+                  known_kept c.loop-number.auto' c.coming_to.new.auto c.loop-number.store c.loop-number.store c.loop-number.known one (Keeps-same c.loop-number.store) c.loop-number.invariant.known,
                 ),
               ),
             ),
@@ -889,6 +892,6 @@ in_match-returns t c =
           (drop_all c.loop-number.number c.args.compiled.clauses.now c.loop-number-test.false) h.walk over left.exact c.in_ok-see_uncovered.ensures.keeps c.in_ok-see_uncovered.ensures.lines c.in_ok-unite_states.ensures.accepts;
       variables = h.walk.stays.variables;
       grows = grows_then c.args.auto.now c.loop-number.auto' c.unite_states.new.auto h.walk.stays.grows g;
-      known = known_kept c.left_over.new.auto c.unite_states.new.auto c.see_uncovered.new.store c.see_uncovered.new.store c.see_uncovered.new.known c.in_ok-unite_states.ensures.grows (keeps_same c.see_uncovered.new.store) c.in_ok-see_uncovered.ensures.known;
-      keeps = keeps_then c.args.store.now c.loop-number.store c.see_uncovered.new.store h.walk.stays.keeps c.in_ok-see_uncovered.ensures.keeps;
+      known = known_kept c.left_over.new.auto c.unite_states.new.auto c.see_uncovered.new.store c.see_uncovered.new.store c.see_uncovered.new.known c.in_ok-unite_states.ensures.grows (Keeps-same c.see_uncovered.new.store) c.in_ok-see_uncovered.ensures.known;
+      keeps = Keeps-trans c.args.store.now c.loop-number.store c.see_uncovered.new.store h.walk.stays.keeps c.in_ok-see_uncovered.ensures.keeps;
     }

@@ -3,6 +3,8 @@ use Rattle.std.proofs.Common.{◌≡◌, ℕ, ◌+◌, ◌*◌, ◌<◌, arith, 
 use Rattle.std.specs.List.{AllByRecursion}
 use Rattle.std.proofs.lemmas.List.{drop_all, get_or_default}
 use Rattle.std.proofs.lemmas.Result.{on_ok_weaker}
+use Rattle.xd_doc.proofs.StoredLemmas.{Keeps-same}
+use Rattle.xd_doc.proofs.Options.{some_holds}
 use Rattle.xd_syntax.specs.CheckFaults.{IsLiveIn}
 use Rattle.xd_syntax.specs.Expression.{Clauses, Expression, Matched, arguments_of, joined}
 use Rattle.xd_syntax.specs.ExpressionTable.{ExprPartsBelow, PatternsBelong, ShapePatternsBelong, call_shape, clauses_of, elem_shape, empty_shape, match_shape, seq_shape, text_shape, var_shape}
@@ -22,6 +24,7 @@ use Rattle.xd_clauses.specs.Behind.{StandsIn}
 use Rattle.xd_clauses.specs.Clauses.{Accepted, AreMayGivens}
 use Rattle.xd_clauses.specs.Compiled.{IsNumbered}
 use Rattle.xd_clauses.specs.declared.compiled.CompiledPatterns.{CompiledPatterns}
+use Rattle.xd_clauses.proofs.NumberedLemmas.{paired_length}
 use Rattle.xd_check.specs.InScope.{ScopeStands}
 use Rattle.xd_check.specs.Ready.{CanBeWalked, HasNumber, expr_at, patterns_among}
 use Rattle.xd_check.specs.Scrutinees.{AddsMatches, MatchesOfBody}
@@ -29,9 +32,8 @@ use Rattle.xd_check.specs.Walked.{Grows}
 use Rattle.xd_check.specs.declared.matches.MetMatch.{MetMatch}
 use Rattle.xd_check.proofs.ClauseLemmas.{comes_first, live_from, live_to}
 use Rattle.xd_check.proofs.ClauseLoop.{clause_here, stands_on}
-use Rattle.xd_check.proofs.GrowsLemmas.{grows_then, just_kept, keeps_same, scope_kept}
+use Rattle.xd_check.proofs.GrowsLemmas.{grows_then, just_kept, scope_kept}
 use Rattle.xd_check.proofs.IsKnownLemmas.{known_kept, known_learnt}
-use Rattle.xd_check.proofs.Lists.{if_some, paired_count}
 use Rattle.xd_check.proofs.Numbered.{compiled_as, numbered_here, some_here, some_numbered}
 use Rattle.xd_check.proofs.Loops.{bodies, bodies_below, ceiling, ceiling_again, ceiling_within}
 use Rattle.xd_check.proofs.MetClauses.{ClausesMet, clauses_begin, clauses_end, clauses_more}
@@ -300,7 +302,7 @@ meet_clause-meet-requires t c =
     let f = c.in_ok-found.ensures in
     let grows : Grows c.args.auto.now c.bindings.new.auto = record { extends = f.extends; keeps = f.accepting } in
     let gs = c.in-Some.givens.items in
-    let bound : AreMayGivens (names_of P) C [] Q c.bindings.new.auto gs = if_some (λ hs. (D : Definitions) (R : PlacedTree) → IsNumbered D (unplaced R) c.args.pattern.patterns.now c.args.pattern.number → AreMayGivens D C [] R c.bindings.new.auto hs.items) c.in_ok-found.found c.in-Some.givens c.in-Some.is f.bindings (names_of P) Q made in
+    let bound : AreMayGivens (names_of P) C [] Q c.bindings.new.auto gs = some_holds (λ hs. (D : Definitions) (R : PlacedTree) → IsNumbered D (unplaced R) c.args.pattern.patterns.now c.args.pattern.number → AreMayGivens D C [] R c.bindings.new.auto hs.items) c.in_ok-found.found c.in-Some.givens c.in-Some.is f.bindings (names_of P) Q made in
     let fallen : 4 * c.args.clause.body.at + 3 < t = omega arith in (
       fallen,
       (
@@ -325,9 +327,9 @@ meet_clause-returns-clause-met t c =
     let f = c.in_ok-found.ensures in
     let grows : Grows c.args.auto.now c.bindings.new.auto = record { extends = f.extends; keeps = f.accepting } in
     let gs = c.in-Some.givens.items in
-    let bound : AreMayGivens (names_of P) C [] Q c.bindings.new.auto gs = if_some (λ hs. (D : Definitions) (R : PlacedTree) → IsNumbered D (unplaced R) c.args.pattern.patterns.now c.args.pattern.number → AreMayGivens D C [] R c.bindings.new.auto hs.items) c.in_ok-found.found c.in-Some.givens c.in-Some.is f.bindings (names_of P) Q made in
+    let bound : AreMayGivens (names_of P) C [] Q c.bindings.new.auto gs = some_holds (λ hs. (D : Definitions) (R : PlacedTree) → IsNumbered D (unplaced R) c.args.pattern.patterns.now c.args.pattern.number → AreMayGivens D C [] R c.bindings.new.auto hs.items) c.in_ok-found.found c.in-Some.givens c.in-Some.is f.bindings (names_of P) Q made in
     λ S e earlier stands comes.
-    let live : IsLiveIn P S e earlier Q = live_from P S e earlier C Q comes (if_some (λ hs. (D : Definitions) (R : PlacedTree) → IsNumbered D (unplaced R) c.args.pattern.patterns.now c.args.pattern.number → IsLive D C [] R) c.in_ok-found.found c.in-Some.givens c.in-Some.is f.live (names_of P) Q made) in
+    let live : IsLiveIn P S e earlier Q = live_from P S e earlier C Q comes (some_holds (λ hs. (D : Definitions) (R : PlacedTree) → IsNumbered D (unplaced R) c.args.pattern.patterns.now c.args.pattern.number → IsLive D C [] R) c.in_ok-found.found c.in-Some.givens c.in-Some.is f.live (names_of P) Q made) in
     let inside = clause_scope P S e earlier C Q comes c.args.auto.now c.bindings.new.auto c.args.variables.now c.bring_in.new.variables gs grows c.requires.variables stands bound c.in_ok-bring_in.ensures in
     let F : Expression = expr_at p c.args.clause.body.at in
     record {
@@ -378,7 +380,7 @@ meet_match-loop-number-init t c =
 
 pub meet_match-bounds-compiled-number : goal.meet_match-bounds-compiled-number
 meet_match-bounds-compiled-number t c =
-    subst (λ n. c.loop-number.number < n) (paired_count (HasNumber c.args.compiled.patterns.now) c.args.compiled.clauses.now c.args.compiled.numbers.now c.requires.compiled.numbers) c.loop-number-test.true
+    subst (λ n. c.loop-number.number < n) (paired_length (HasNumber c.args.compiled.patterns.now) c.args.compiled.clauses.now c.args.compiled.numbers.now c.requires.compiled.numbers) c.loop-number-test.true
 
 pub meet_match-coming_to-requires : goal.meet_match-coming_to-requires
 meet_match-coming_to-requires t c =
@@ -427,7 +429,7 @@ meet_match-meet_clause-requires t c =
                 a.belongs,
                 (
                   states_again c.args.auto.now c.coming_to.new.auto g c.args.variables.now c.loop-number.variables st.variables c.requires.variables,
-                  known_kept c.loop-number.auto' c.coming_to.new.auto c.loop-number.meeting.store c.loop-number.meeting.store c.loop-number.meeting.known one (keeps_same c.loop-number.meeting.store) c.loop-number.invariant.known,
+                  known_kept c.loop-number.auto' c.coming_to.new.auto c.loop-number.meeting.store c.loop-number.meeting.store c.loop-number.meeting.known one (Keeps-same c.loop-number.meeting.store) c.loop-number.invariant.known,
                 ),
               ),
             ),

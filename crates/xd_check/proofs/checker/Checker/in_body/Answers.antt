@@ -1,4 +1,4 @@
-use Rattle.xd_check.proofs.GrowsLemmas.{keeps_same, keeps_then}
+use Rattle.xd_doc.proofs.StoredLemmas.{Keeps-same, Keeps-trans}
 use Rattle.std.proofs.lemmas.Result.{IfOk-from_err}
 use Rattle.std.proofs.Common.{◌≡◌, ◌<◌, List, map, length, ap, sym, subst, ◌∙◌}
 use Rattle.xd_syntax.specs.FunctionRow.{FunctionRow}
@@ -76,7 +76,7 @@ returns c =
           (misfit_lines P S x (placed_at p.types f.declared.at) (place_of_expression x) wrong_result c.in_expression.new.auto c.in_ok-state.state g.declared w.may wanted.exact) c.in_expression.new.lines.items c.see_result.new.lines.items line);
       grows = c.in_ok-state.ensures.grows;
       known = c.in_ok-see_result.ensures.known;
-      keeps = keeps_then c.args.store.now c.in_expression.new.store c.see_result.new.store c.in_ok-state.ensures.keeps c.in_ok-see_result.ensures.keeps;
+      keeps = Keeps-trans c.args.store.now c.in_expression.new.store c.see_result.new.store c.in_ok-state.ensures.keeps c.in_ok-see_result.ensures.keeps;
     }
 
 pub returns-in_err-variables : goal.returns-in_err-variables
@@ -87,7 +87,7 @@ returns-in_err-variables c =
       lines = IfOk-from_err r _ e;
       grows = IfOk-from_err r _ e;
       known = IfOk-from_err r _ e;
-      keeps = keeps_same c.args.store.now;
+      keeps = Keeps-same c.args.store.now;
     }
 
 pub returns-in_err-state : goal.returns-in_err-state
@@ -109,5 +109,5 @@ returns-in_err-see_result c =
       lines = IfOk-from_err r _ e;
       grows = IfOk-from_err r _ e;
       known = IfOk-from_err r _ e;
-      keeps = keeps_then c.args.store.now c.in_expression.new.store c.see_result.new.store c.in_ok-state.ensures.keeps c.see_result.ensures.keeps;
+      keeps = Keeps-trans c.args.store.now c.in_expression.new.store c.see_result.new.store c.in_ok-state.ensures.keeps c.see_result.ensures.keeps;
     }

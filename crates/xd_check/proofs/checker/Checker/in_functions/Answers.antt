@@ -1,10 +1,10 @@
 use Rattle.std.proofs.lemmas.Result.{IfOk-from_err}
 use Rattle.std.proofs.Common.{◌≡◌, ℕ, ◌<◌, ◌≤◌, List, length, ap, subst, ◌∙◌}
 use Rattle.std.proofs.lemmas.List.{drop_all}
+use Rattle.xd_doc.proofs.StoredLemmas.{Keeps-trans}
 use Rattle.xd_syntax.specs.FunctionRow.{FunctionRow}
 use Rattle.xd_syntax.specs.Kept.{ProgramTable}
 use Rattle.xd_check.proofs.FunctionLoop.{function_at, function_at_is, functions_begin, functions_end, functions_more}
-use Rattle.xd_check.proofs.GrowsLemmas.{keeps_then}
 use Rattle.xd_check.proofs.IsReadyLemmas.{ready_kept}
 use Rattle.xd_check.proofs.checker.Checker.in_functions.Goals as goal
 
@@ -52,5 +52,5 @@ returns-in_err-in_function c =
     let r = c.from_residual.result in
     record {
       lines = IfOk-from_err r _ e;
-      keeps = keeps_then c.args.store.now c.loop-number.store c.in_function.new.store c.loop-number.invariant.walk.keeps c.in_function.ensures.keeps;
+      keeps = Keeps-trans c.args.store.now c.loop-number.store c.in_function.new.store c.loop-number.invariant.walk.keeps c.in_function.ensures.keeps;
     }

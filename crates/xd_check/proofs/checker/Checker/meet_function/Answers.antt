@@ -1,5 +1,6 @@
 use Rattle.std.proofs.Common.{◌≡◌, ◌<◌, List, [], get_or, length, ap, sym, subst, ◌∙◌}
 use Rattle.std.proofs.lemmas.List.{get_or_default}
+use Rattle.xd_doc.proofs.Lists.{all_get}
 use Rattle.xd_syntax.specs.FunctionRow.{FunctionRow}
 use Rattle.xd_syntax.specs.Kept.{FunctionStands, ProgramStands, ProgramTable, function_definition, program_tree}
 use Rattle.xd_syntax.specs.Program.{ProgramTree}
@@ -12,7 +13,6 @@ use Rattle.xd_check.specs.declared.signatures.Signature.{Signature}
 use Rattle.xd_check.specs.Scrutinees.{AddsMatches}
 use Rattle.xd_check.proofs.Walkable.{walk_body}
 use Rattle.xd_check.proofs.FunctionLoop.{rows_count, signature_at_row}
-use Rattle.xd_check.proofs.Lists.{all_at}
 use Rattle.xd_check.proofs.checker.Checker.meet_function.Goals as goal
 
 pub meet_body-requires : goal.meet_body-requires
@@ -23,7 +23,7 @@ meet_body-requires c =
     let same : c.functions.result.now ≡ p.functions = c.functions.ensures.functions ∙ ap (λ (q : ProgramTable). q.functions) c.program.ensures.program in
     let at : f ≡ get_or p.functions c.args.number f = c.index-functions-number.is ∙ ap (λ fs. get_or fs c.args.number f) same in
     let stands : ProgramStands p = subst ProgramStands c.program.ensures.program c.functions.ensures.stands in
-    let there : FunctionStands p.types p.exprs f = subst (FunctionStands p.types p.exprs) (sym at) (all_at (FunctionStands p.types p.exprs) p.functions c.args.number f stands.functions c.requires.number) in
+    let there : FunctionStands p.types p.exprs f = subst (FunctionStands p.types p.exprs) (sym at) (all_get (FunctionStands p.types p.exprs) p.functions c.args.number f stands.functions c.requires.number) in
     let g : Signature = c.index-rows-number.result in
     let row : g ≡ get_or c.args.self.now.signatures.rows.items c.args.number g = c.index-rows-number.is ∙ ap (λ gs. get_or gs c.args.number g) c.rows.ensures in
     let mine : Among (function_definition p f) P.functions = map_mem (function_definition p) f p.functions (subst (λ x. Among x p.functions) (sym at) (among_at f p.functions c.args.number c.requires.number)) in

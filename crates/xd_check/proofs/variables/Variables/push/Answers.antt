@@ -1,4 +1,4 @@
-use Rattle.xd_check.proofs.Newest.{reverse_push}
+use Rattle.xd_doc.proofs.Lists.{reverse_push}
 use Rattle.xd_check.specs.declared.variables.Variable.{Variable}
 use Rattle.std.specs.Prelude.{reverse}
 use Rattle.std.proofs.Common.{List, ◌∷◌, ap, ◌∙◌}

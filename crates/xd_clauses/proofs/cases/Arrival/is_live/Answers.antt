@@ -1,4 +1,5 @@
 use Rattle.std.proofs.Common.{◌≡◌, true, false, Ok, [], ap, sym, subst, ◌∙◌}
+use Rattle.xd_doc.proofs.Options.{none_if}
 use Rattle.xd_points.specs.Meaning.{ServePoints}
 use Rattle.xd_syntax.specs.Tree.{Definitions}
 use Rattle.xd_syntax.specs.May.{IsLive}
@@ -6,7 +7,7 @@ use Rattle.xd_syntax.specs.Placed.{PlacedTree, unplaced}
 use Rattle.xd_clauses.specs.Clauses.{Accepted}
 use Rattle.xd_clauses.specs.Compiled.{IsNumbered}
 use Rattle.xd_clauses.specs.declared.compiled.CompiledPatterns.{CompiledPatterns}
-use Rattle.xd_clauses.proofs.Givens.{none_is, some_holds}
+use Rattle.xd_clauses.proofs.Givens.{some_holds}
 use Rattle.xd_clauses.proofs.NoneTakesLemmas.{live_back, live_on}
 use Rattle.xd_clauses.proofs.NumberedLemmas.{numbered_as}
 use Rattle.xd_clauses.proofs.cases.Arrival.is_live.Goals as goal
@@ -41,5 +42,5 @@ returns-clause-dead c E b s Ps P is left e l =
     let same = c.pattern-pattern.ensures in
     let own = numbered_as E (unplaced P) c.args.self.now.patterns x.patterns.now c.args.self.now.number x.number same.patterns same.number is in
     let no : c.is_some.result ≡ false = cc in
-    let none = none_is c.in_ok-found.found (sym c.is_some.ensures ∙ no) in
+    let none = none_if c.in_ok-found.found (sym c.is_some.ensures ∙ no) in
     c.in_ok-found.ensures.dead (ap (λ o. Ok o) none) E P own (live_back E (Accepted b s) B Ps P left l)

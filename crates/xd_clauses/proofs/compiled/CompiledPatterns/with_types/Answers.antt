@@ -1,6 +1,6 @@
 use Rattle.std.proofs.Common.{sym, subst}
 use Rattle.xd_auto.specs.Automaton.{Automaton, Extends}
-use Rattle.xd_clauses.proofs.NumberedLemmas.{extends_itself}
+use Rattle.xd_auto.proofs.ExtendsLemmas.{extends_itself}
 use Rattle.xd_clauses.proofs.compiled.CompiledPatterns.with_types.Goals as goal
 
 pub returns-clause-serve : goal.returns-clause-serve

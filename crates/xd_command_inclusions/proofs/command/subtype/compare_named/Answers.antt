@@ -1,6 +1,7 @@
-use Rattle.std.proofs.Common.{◌≡◌, Bool, true, false, cond, ◌||◌, List, [], ◌∷◌, ◌++◌, inr, refl, sym, subst}
+use Rattle.std.proofs.Common.{◌≡◌, Bool, true, false, cond, ◌||◌, List, [], ◌∷◌, inr, refl, sym, subst}
 use Rattle.std.specs.Prelude.{ℕ, None}
 use Rattle.std.specs.Str.{bytes_eq}
+use Rattle.xd_doc.proofs.Lists.{append_none_parts}
 use Rattle.xd_proof_make.specs.Made.{UsesDefined}
 use Rattle.xd_syntax.specs.Tree.{uses_only, Text, Name}
 use Rattle.xd_syntax.specs.Kept.{program_tree}
@@ -16,11 +17,6 @@ use Rattle.xd_syntax.specs.declared.fault.FaultKind.TheVariants.{NoSuchName}
 use Rattle.xd_syntax.specs.declared.types.TypeId.{TypeId}
 use Rattle.xd_command_inclusions.specs.Subtype.{undefined, AnswersInclusion}
 use Rattle.xd_command_inclusions.proofs.command.subtype.compare_named.Goals as goal
-
--- both lists are empty where they are so together
-both_empty : {X : Type 0} (xs ys : List X) → xs ++ ys ≡ [] → (xs ≡ []) × (ys ≡ [])
-both_empty [] ys e = (refl, e)
-both_empty (x ∷ xs) ys e = absurd (cc)
 
 defined : (P : ProgramTree) (w : List ℕ) → undefined P w ≡ [] → is_defined P w ≡ true
 defined P w e = go (is_defined P w) e
@@ -44,7 +40,7 @@ pub compare-requires-clause-left_names : goal.compare-requires-clause-left_names
 compare-requires-clause-left_names c =
     let P = program_tree c.args.sound.now in
     let named = c.in_ok-one.ensures.step in
-    let none = both_empty (undefined P c.args.left.now) (undefined P c.args.right.now) named.defined in
+    let none = append_none_parts (undefined P c.args.left.now) (undefined P c.args.right.now) named.defined in
     subst (λ Q. UsesDefined Q (tree c.named_types.new.sound.types c.in_ok-one.one)) (sym c.named_types.ensures.same)
     (used P c.named_types.new.sound.types c.args.left.now c.in_ok-one.one none.0 named.one)
 
@@ -52,7 +48,7 @@ pub compare-requires-clause-right_names : goal.compare-requires-clause-right_nam
 compare-requires-clause-right_names c =
     let P = program_tree c.args.sound.now in
     let named = c.in_ok-one.ensures.step in
-    let none = both_empty (undefined P c.args.left.now) (undefined P c.args.right.now) named.defined in
+    let none = append_none_parts (undefined P c.args.left.now) (undefined P c.args.right.now) named.defined in
     subst (λ Q. UsesDefined Q (tree c.named_types.new.sound.types c.in_ok-one.other)) (sym c.named_types.ensures.same)
     (used P c.named_types.new.sound.types c.args.right.now c.in_ok-one.other none.1 named.other)
 

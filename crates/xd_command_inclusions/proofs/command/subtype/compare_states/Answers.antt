@@ -1,18 +1,19 @@
 use Rattle.std.proofs.Common.{◌≡◌, [], ◌∷◌, inl, inr, refl, sym, subst}
 use Rattle.std.proofs.lemmas.Result.{IfOk-weaker}
+use Rattle.std.proofs.lemmas.Bool.{false_from_ne_true}
 use Rattle.xd_doc.specs.Stored.{document_at}
+use Rattle.xd_doc.proofs.Results.{ok_both}
 use Rattle.xd_goals.specs.Rows.{row_at}
 use Rattle.xd_goals.specs.Standing.{StandsOn}
 use Rattle.xd_goals.specs.Verdicts.{IsVerdict}
 use Rattle.xd_heads.specs.Mirrors.{continuation_of}
-use Rattle.xd_parse.proofs.ReadsLemmas.{if_ok_both}
 use Rattle.xd_proof_make.specs.ProofText.{ProvesRow}
 use Rattle.xd_command_steps.specs.Output.{Output}
 use Rattle.xd_syntax.specs.Kept.{program_tree}
 use Rattle.xd_auto.specs.Automaton.{accepts}
 use Rattle.xd_syntax.specs.Program.{names_of}
 use Rattle.xd_command_inclusions.specs.Subtype.{AnswersInclusion}
-use Rattle.xd_command_inclusions.proofs.Separations.{alone_by_states, false_if}
+use Rattle.xd_command_inclusions.proofs.Separations.{alone_by_states}
 use Rattle.xd_command_inclusions.proofs.Inclusions.{answers_proof, inclusion_proved, row_known, row_typed}
 use Rattle.xd_command_inclusions.proofs.command.subtype.compare_states.Goals as goal
 
@@ -49,7 +50,7 @@ returns-in-Included c L R left right =
     let table = c.decide.new.table in
     let goal = c.in-Included.goal.number in
     let v = subst (IsVerdict auto c.decide.new.store table c.args.left (c.args.right ∷ [])) c.in-Included.is c.in_ok-goal.ensures.verdict in
-    if_ok_both c.prove_goal.result (λ (o : Output). o.status ≡ 0) (λ (o : Output). ProvesRow (program_tree p) (continuation_of p.types cells) (row_at table.rows goal) o.text) (AnswersInclusion (program_tree p) L R)
+    ok_both c.prove_goal.result (λ (o : Output). o.status ≡ 0) (λ (o : Output). ProvesRow (program_tree p) (continuation_of p.types cells) (row_at table.rows goal) o.text) (AnswersInclusion (program_tree p) L R)
     (λ o status text. answers_proof p cells auto L R c.args.left c.args.right left right v.0 o status (inclusion_proved p cells auto L R c.args.left c.args.right left right table goal v.1 o.text text))
     c.prove_goal.ensures.status c.prove_goal.ensures.text
 
@@ -63,7 +64,7 @@ separate-requires-clause-apart c =
     let ds = c.decide.new.store in
     let v = subst (IsVerdict c.args.auto.now ds c.decide.new.table c.args.left (c.args.right ∷ [])) c.in-Separated.is c.in_ok-goal.ensures.verdict in
     let d = document_at ds c.in-Separated.document in
-    record { accepted = v.separates.accepted; refused = false_if (accepts c.args.auto.now d c.args.right) (v.separates.refused c.args.right (inl refl)) }
+    record { accepted = v.separates.accepted; refused = false_from_ne_true (accepts c.args.auto.now d c.args.right) (v.separates.refused c.args.right (inl refl)) }
 
 pub returns : goal.returns
 returns c L R left right =

@@ -4,7 +4,7 @@ use Rattle.std.specs.Fmt.{decimal}
 use Rattle.xd_doc.specs.Document.{empty, text, element}
 use Rattle.xd_doc.specs.Stored.{document_at}
 use Rattle.xd_doc.specs.StoredSeq.{BelongsTo}
-use Rattle.xd_check.proofs.GrowsLemmas.{keeps_same, keeps_then}
+use Rattle.xd_doc.proofs.StoredLemmas.{Keeps-same, Keeps-trans}
 use Rattle.xd_command_programs.proofs.command.sample.field.Goals as goal
 
 pub text_node-requires : goal.text_node-requires
@@ -20,14 +20,14 @@ pub returns-in_err-characters : goal.returns-in_err-characters
 returns-in_err-characters c = record {
   made = IfOk-from_err c.from_residual.result (λ q. document_at c.args.store.now q ≡ element c.args.label.now (text (c.args.front.now ++ decimal c.args.number) empty) (document_at c.args.store.now c.args.next)) c.from_residual.ensures.0;
   belongs = IfOk-from_err c.from_residual.result (BelongsTo c.args.store.now) c.from_residual.ensures.0;
-  keeps = keeps_same c.args.store.now;
+  keeps = Keeps-same c.args.store.now;
 }
 
 pub returns-in_err-text : goal.returns-in_err-text
 returns-in_err-text c = record {
   made = IfOk-from_err c.from_residual-in_err-text.result (λ q. document_at c.args.store.now q ≡ element c.args.label.now (text (c.args.front.now ++ decimal c.args.number) empty) (document_at c.args.store.now c.args.next)) c.from_residual-in_err-text.ensures.0;
   belongs = IfOk-from_err c.from_residual-in_err-text.result (BelongsTo c.args.store.now) c.from_residual-in_err-text.ensures.0;
-  keeps = keeps_same c.args.store.now;
+  keeps = Keeps-same c.args.store.now;
 }
 
 pub returns-in_err-content : goal.returns-in_err-content
@@ -60,5 +60,5 @@ returns c =
     record {
       made = IfOk-weaker c.elem_node.result (λ q. document_at N q ≡ element c.in_ok-new.field-0 (document_at M c.in_ok-content.content) (document_at M c.args.next)) (λ q. document_at N q ≡ element l (text s empty) next) (λ q e. e ∙ same) c.elem_node.ensures.ok;
       belongs = c.elem_node.ensures.belongs;
-      keeps = keeps_then O M N c.text_node.ensures.keeps c.elem_node.ensures.keeps;
+      keeps = Keeps-trans O M N c.text_node.ensures.keeps c.elem_node.ensures.keeps;
     }

@@ -1,9 +1,8 @@
 use Rattle.std.proofs.Common.{◌∷◌, ◌++◌, [], map, take, get_or, sym, subst, ap, ◌∙◌}
 use Rattle.std.specs.List.{AllZip}
 use Rattle.std.proofs.lemmas.List.{take_more}
-use Rattle.xd_auto.proofs.Copies.{zip_push}
+use Rattle.xd_doc.proofs.Lists.{zip_push, map_append}
 use Rattle.xd_continuations.specs.Continuation.{head_of}
-use Rattle.xd_continuations.proofs.MoveLemmas.{map_append}
 use Rattle.xd_moves.specs.Found.{move_at}
 use Rattle.xd_heads.specs.HeadList.{IsHeadFound}
 use Rattle.xd_heads.specs.Numbered.{IsHeadIn}

@@ -1,9 +1,9 @@
 use Rattle.std.proofs.Common.{ℕ, ◌≡◌, nat_eq, Bool, true, false, cond, List, [], ◌∷◌, ◌++◌, length, Some, vec_len, rules, refl, sym, subst, ◌∙◌}
 use Rattle.std.specs.HashMap.{get}
+use Rattle.xd_doc.proofs.Numbers.{number_same}
 use Rattle.xd_syntax.specs.Kept.{program_tree}
 use Rattle.xd_syntax.specs.Program.{names_of}
 use Rattle.xd_syntax.specs.Table.{tree_at}
-use Rattle.xd_continuations.proofs.LinkTests.{same_number}
 use Rattle.xd_match.specs.Matcher.{AllStand, HasMatcher}
 use Rattle.xd_match.specs.declared.matcher.Matcher.{Matcher}
 use Rattle.xd_match.proofs.PatternLaws.{all_stand_more, has_matcher_more, has_matcher_new}
@@ -40,7 +40,7 @@ returns-clause-numbered c n i e = go (nat_eq key n) refl (sym (c.in_ok-insert.en
         subst (λ (ms : List Matcher). HasMatcher (names_of (program_tree c.args.sound.now)) (tree_at c.args.sound.now.patterns n) ms i) (sym c.in_ok-push.ensures.items)
         (has_matcher_more (names_of (program_tree c.args.sound.now)) (tree_at c.args.sound.now.patterns n) c.args.self.now.matchers.items c.in_ok-matcher.matcher i (c.requires.numbered n i f))
     go true q f =
-        let same : n ≡ c.args.pattern.at = same_number key n q ∙ c.at-at.ensures in
+        let same : n ≡ c.args.pattern.at = number_same key n q ∙ c.at-at.ensures in
         let last : c.len-number.result ≡ i = cc in
         let v : vec_len c.args.self.now.matchers ≡ length c.args.self.now.matchers.items = search rules in
         let count : length c.args.self.now.matchers.items ≡ i = sym v ∙ sym c.len-number.ensures ∙ last in

@@ -4,9 +4,9 @@ use Rattle.std.specs.Map.{lookup}
 use Rattle.std.specs.Ordering.{nat_cmp}
 use Rattle.std.specs.Cmp.Lexicographic.{slice_cmp}
 use Rattle.std.proofs.lemmas.List.{length_push}
+use Rattle.xd_doc.proofs.Lists.{take_front}
 use Rattle.xd_names.specs.Counts.{occurrences}
 use Rattle.xd_names.proofs.WordLemmas.{occurrences-le-length, count_push, on_ok, on_err}
-use Rattle.xd_names.proofs.LinearLemmas.{take_front}
 use Rattle.xd_names.proofs.scope.Scope.push.Goals as goal
 
 pub overflow_add-count : goal.overflow_add-count

@@ -10,11 +10,12 @@ use Rattle.xd_laws.specs.Guarded.{Guarded}
 use Rattle.xd_laws.proofs.SoundGuarded.{guarded}
 use Rattle.xd_pattern_runs.specs.Linear.{BindNothing}
 use Rattle.xd_pattern_runs.proofs.NamesBindNothing.{names_bind_nothing}
+use Rattle.xd_syntax.proofs.KeptLaws.{along, back_along}
 use Rattle.xd_patterns.specs.Bodies.{node_of}
 use Rattle.xd_patterns.specs.CompiledProgram.{IsLinearPattern, IsPatternState, IsTypeState, marking_of_program, pattern_states, type_states, variables_of_patterns}
 use Rattle.xd_patterns.specs.Tasks.{AreBodies, meanings}
 use Rattle.xd_patterns.specs.Compiler.{Serves}
-use Rattle.xd_patterns.proofs.ServesLemmas.{along, back_along, serves_bodies}
+use Rattle.xd_patterns.proofs.ServesLemmas.{serves_bodies}
 use Rattle.xd_patterns.proofs.Together.{types_accept}
 use Rattle.xd_patterns.proofs.compiler.PatternCompiler.compile_all.Goals as goal
 

@@ -13,11 +13,12 @@ use Rattle.xd_laws.proofs.SoundGuarded.{guarded}
 use Rattle.xd_laws.proofs.TheLaws.{patterns_are_types}
 use Rattle.xd_pattern_runs.specs.Linear.{BindNothing}
 use Rattle.xd_pattern_runs.proofs.NamesBindNothing.{names_bind_nothing}
+use Rattle.xd_syntax.proofs.KeptLaws.{along, back_along}
 use Rattle.xd_patterns.specs.Bodies.{node_of}
 use Rattle.xd_patterns.specs.Tasks.{AreBodies, meanings}
 use Rattle.xd_patterns.specs.Compiler.{Serves}
 use Rattle.xd_patterns.proofs.PlainTypes.{type_bare}
-use Rattle.xd_patterns.proofs.ServesLemmas.{along, back_along, serves_bodies}
+use Rattle.xd_patterns.proofs.ServesLemmas.{serves_bodies}
 use Rattle.xd_patterns.proofs.compiler.PatternCompiler.compile_plain_type.Goals as goal
 
 pub compile_plain-requires-clause-guarded : goal.compile_plain-requires-clause-guarded

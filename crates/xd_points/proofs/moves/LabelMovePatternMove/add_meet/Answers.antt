@@ -2,6 +2,7 @@ use Rattle.std.proofs.Common.{◌≡◌, Bool, ◌&&◌, not, true, List, Option
 use Rattle.std.specs.List.{list_any}
 use Rattle.xd_doc.specs.ClassForms.{IsPart}
 use Rattle.xd_doc.specs.Classes.{LabelClass, class_has}
+use Rattle.xd_doc.proofs.Lists.{all_step}
 use Rattle.xd_auto.specs.declared.auto.LabelMove.{LabelMove}
 use Rattle.xd_auto.specs.Automaton.{moves_at}
 use Rattle.xd_boole.specs.Meaning.{ElementFirst, element_of, move_takes}
@@ -12,7 +13,7 @@ use Rattle.xd_boole.specs.Choices.{AllChoices}
 use Rattle.xd_boole.specs.Refusals.{label_refused}
 use Rattle.xd_boole.proofs.Bools.{and_where}
 use Rattle.xd_boole.proofs.DifferenceLemmas.{right_more}
-use Rattle.xd_boole.proofs.Lists.{all_step, any_walked}
+use Rattle.xd_boole.proofs.Lists.{any_walked}
 use Rattle.xd_points.specs.declared.moves.Parts.{Parts}
 use Rattle.xd_points.specs.Points.{AddsLabels, AreRefusing, parts_accept, taken_before}
 use Rattle.xd_points.proofs.MeetLemmas.{met}

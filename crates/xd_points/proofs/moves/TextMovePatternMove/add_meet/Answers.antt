@@ -2,13 +2,14 @@ use Rattle.std.proofs.Common.{◌≡◌, ◌&&◌, ◌||◌, not, true, take, Li
 use Rattle.std.specs.List.{list_any}
 use Rattle.xd_doc.specs.ClassForms.{IsPart}
 use Rattle.xd_doc.specs.Classes.{TextClass, class_has}
+use Rattle.xd_doc.proofs.Lists.{all_step}
 use Rattle.xd_auto.specs.declared.auto.State.{State}
 use Rattle.xd_auto.specs.Automaton.{IsState, accepts, moves_at}
 use Rattle.xd_boole.specs.Meaning.{any_accepts, is_state, text_of, text_takes}
 use Rattle.xd_boole.specs.declared.groups.Group.{Group}
 use Rattle.xd_boole.specs.Groups.{AllPass, any_group, group_refuses}
 use Rattle.xd_boole.proofs.DifferenceLemmas.{right_more}
-use Rattle.xd_boole.proofs.Lists.{all_step, any_walked}
+use Rattle.xd_boole.proofs.Lists.{any_walked}
 use Rattle.xd_points.specs.declared.moves.Rests.{Rests}
 use Rattle.xd_points.specs.Meaning.{PointView}
 use Rattle.xd_points.specs.Points.{rests_accept}

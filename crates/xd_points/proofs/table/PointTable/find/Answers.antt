@@ -1,7 +1,8 @@
 use Rattle.std.proofs.Common.{◌<◌, length, arith, sym, ◌∙◌}
+use Rattle.xd_doc.proofs.StoredLemmas.{Keeps-same}
 use Rattle.xd_points.specs.Points.{state_at}
 use Rattle.xd_points.proofs.HasMovesLemmas.{expanded_grown}
-use Rattle.xd_points.proofs.TableLemmas.{documents_stay, expanded_after, first_mean, made_extends, mean_after, rights_belong, start_is, start_means, within}
+use Rattle.xd_points.proofs.TableLemmas.{expanded_after, first_mean, made_extends, mean_after, rights_belong, start_is, start_means, within}
 use Rattle.xd_points.proofs.table.PointTable.find.Goals as goal
 
 pub stand_for-requires-clause-states : goal.stand_for-requires-clause-states
@@ -24,7 +25,7 @@ learn-requires c =
     let now = c.in_ok-expand_all.ensures in
     c.stays_known.ensures old.made new.made store store
     (made_extends c.args.auto.now c.args.patterns.now old c.stand_for.new.points new t.expanded.whole.count now.expanded.whole c.in_ok-start.ensures.grows now.keeps.longer (λ i lt. now.moves i (omega (arith, lt, t.every))))
-    (documents_stay store) t.known
+    (Keeps-same store) t.known
 
 pub place_points-requires-clause-expanded : goal.place_points-requires-clause-expanded
 place_points-requires-clause-expanded c = record { first = c.args.self.now.first; rows = c.expand_all.new.rows.items; are = c.in_ok-expand_all.ensures.expanded; every = c.in_ok-expand_all.ensures.every }

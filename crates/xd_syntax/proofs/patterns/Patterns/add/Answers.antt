@@ -1,7 +1,7 @@
 use Rattle.std.proofs.Common.{true, sym, subst}
+use Rattle.xd_doc.proofs.Lists.{all_push}
 use Rattle.xd_syntax.specs.Table.{CanFollow}
 use Rattle.xd_syntax.specs.Patterns.{form_of_pattern}
-use Rattle.xd_syntax.proofs.TableRows.{all-push}
 use Rattle.xd_syntax.proofs.Trees.{AreBuilt-push, tree_new}
 use Rattle.xd_syntax.proofs.PlacedTrees.{placed_new}
 use Rattle.xd_syntax.proofs.patterns.Patterns.add.Goals as goal
@@ -10,7 +10,7 @@ pub invariant_of-self-2 : goal.invariant_of-self-2
 invariant_of-self-2 c = rw c.in_ok-push.ensures.items
     (record {
       built = AreBuilt-push true c.self.inside.nodes.items _ c.self.invariant.built (subst (λ rs. CanFollow true rs (form_of_pattern c.args.form)) (sym c.self.view_is) c.requires);
-      proper = all-push _ c.self.inside.nodes.items _ c.self.invariant.proper c.see_words.ensures;
+      proper = all_push _ c.self.inside.nodes.items _ c.self.invariant.proper c.see_words.ensures;
     })
 
 pub returns-clause-tree : goal.returns-clause-tree

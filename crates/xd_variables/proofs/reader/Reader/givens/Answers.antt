@@ -1,5 +1,6 @@
 use Rattle.std.proofs.Common.{Ok, [], ap, refl, subst}
 use Rattle.std.specs.Option.{IfSome}
+use Rattle.xd_doc.proofs.StoredLemmas.{Keeps-same}
 use Rattle.xd_least.proofs.KnownLemmas.{stays_known}
 use Rattle.xd_syntax.specs.May.{IsLive}
 use Rattle.xd_syntax.specs.Placed.{PlacedTree, unplaced}
@@ -7,7 +8,7 @@ use Rattle.xd_syntax.specs.Tree.{Definitions}
 use Rattle.xd_clauses.specs.Clauses.{Accepted}
 use Rattle.xd_clauses.specs.Compiled.{IsNumbered}
 use Rattle.xd_clauses.proofs.Givens.{all_nothing}
-use Rattle.xd_check.proofs.GrowsLemmas.{grows_by, grows_then, keeps_same}
+use Rattle.xd_check.proofs.GrowsLemmas.{grows_by, grows_then}
 use Rattle.xd_variables.specs.Bound.{reading_of}
 use Rattle.xd_variables.proofs.ReadingLemmas.{gives_nothing}
 use Rattle.xd_variables.proofs.reader.Reader.givens.Goals as goal
@@ -27,7 +28,7 @@ returns-in_ok-givens-in-None-clause-grows c =
 pub returns-in_ok-givens-in-None-clause-known : goal.returns-in_ok-givens-in-None-clause-known
 returns-in_ok-givens-in-None-clause-known c =
     let ds = c.bindings.new.found.store in
-    stays_known c.bindings.new.found.inhabitants c.bindings.new.auto c.given_nothing.new.auto ds ds c.in_ok-givens-in-None.ensures.extends (keeps_same ds) c.in_ok-bound.ensures.known
+    stays_known c.bindings.new.found.inhabitants c.bindings.new.auto c.given_nothing.new.auto ds ds c.in_ok-givens-in-None.ensures.extends (Keeps-same ds) c.in_ok-bound.ensures.known
 
 pub returns-in-Some-clause-live : goal.returns-in-Some-clause-live
 returns-in-Some-clause-live c = λ E P i.

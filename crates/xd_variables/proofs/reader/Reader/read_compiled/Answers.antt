@@ -1,5 +1,6 @@
 use Rattle.std.proofs.Common.{◌≡◌, ℕ, ◌+◌, ◌<◌, List, get_or, sym, subst}
 use Rattle.std.proofs.lemmas.List.{drop_all, get_or_default}
+use Rattle.xd_doc.proofs.StoredLemmas.{Keeps-same}
 use Rattle.xd_least.proofs.KnownLemmas.{stays_known}
 use Rattle.xd_syntax.specs.Kept.{ProgramTable, program_tree}
 use Rattle.xd_syntax.specs.Placed.{PlacedTree, unplaced}
@@ -10,12 +11,12 @@ use Rattle.xd_syntax.proofs.PlacedTrees.{unplaced_at}
 use Rattle.xd_clauses.specs.Behind.{StandsIn}
 use Rattle.xd_clauses.specs.Compiled.{IsNumbered}
 use Rattle.xd_clauses.specs.declared.compiled.CompiledPatterns.{CompiledPatterns}
+use Rattle.xd_clauses.proofs.NumberedLemmas.{paired_length}
 use Rattle.xd_check.specs.Ready.{HasNumber, ServesOn}
 use Rattle.xd_check.specs.Walked.{Grows}
 use Rattle.xd_check.proofs.ClauseLoop.{clause_here, stands_on}
-use Rattle.xd_check.proofs.GrowsLemmas.{grows_none, grows_then, keeps_same}
+use Rattle.xd_check.proofs.GrowsLemmas.{grows_none, grows_then}
 use Rattle.xd_check.proofs.IsReadyLemmas.{serves_kept}
-use Rattle.xd_check.proofs.Lists.{paired_count}
 use Rattle.xd_check.proofs.Numbered.{numbered_here, some_here}
 use Rattle.xd_variables.specs.Bound.{reading_of}
 use Rattle.xd_variables.specs.declared.variables.BoundVariable.{BoundVariable}
@@ -34,7 +35,7 @@ loop-number-init c =
 
 pub bounds-compiled-number : goal.bounds-compiled-number
 bounds-compiled-number c =
-    subst (λ n. c.loop-number.number < n) (paired_count (HasNumber c.args.compiled.patterns.now) c.args.compiled.clauses.now c.args.compiled.numbers.now c.requires.compiled.numbers) c.loop-number-test.true
+    subst (λ n. c.loop-number.number < n) (paired_length (HasNumber c.args.compiled.patterns.now) c.args.compiled.clauses.now c.args.compiled.numbers.now c.requires.compiled.numbers) c.loop-number-test.true
 
 pub coming_to-requires : goal.coming_to-requires
 coming_to-requires c =
@@ -75,7 +76,7 @@ read_clause-requires c =
       pattern = numbered_here p c.args.auto.now cs m c.args.compiled.numbers.now c.requires.compiled n k x.patterns.now x.number c.loop-number-test.true e is c.pattern-pattern.ensures.number;
       points = subst (ServesOn b) (sym is) (serves_kept c.args.auto.now b m g.extends c.requires.compiled.points);
       coming = a.belongs;
-      known = stays_known c.loop-number.found.inhabitants c.loop-number.auto' b c.loop-number.found.store c.loop-number.found.store a.extends (keeps_same c.loop-number.found.store) c.loop-number.invariant.known;
+      known = stays_known c.loop-number.found.inhabitants c.loop-number.auto' b c.loop-number.found.store c.loop-number.found.store a.extends (Keeps-same c.loop-number.found.store) c.loop-number.invariant.known;
     }
 
 pub pass_on-requires : goal.pass_on-requires
