@@ -12,12 +12,12 @@ use std::alloc::Global;
 use xd_auto::{Auto, State};
 use xd_calls_lines::{Call, CallError};
 use xd_calls_programs::{program_of, show_members, type_of};
-use xd_continuations::meaning_of_any;
+use xd_continuations::{TypeBodies, meaning_of_any};
 use xd_doc::Store;
 use xd_match::Matchers;
-use xd_patterns::{Bodies, PatternCompiler, compile_pattern};
+use xd_patterns::{PatternCompiler, compile_pattern};
 use xd_read::read_document;
-use xd_sound::SoundProgram;
+use xd_sound::{SoundProgram, TypeNames};
 use xd_syntax::{PatternId, TypeId};
 
 /// `first_ways CLAUSE DOCUMENTS`: what the first match of the clause of this number, from 1, binds
@@ -94,7 +94,11 @@ fn compiled(
 {
     let any = meaning_of_any(alloc, sound)?;
     let program = sound.program();
-    let bodies = Bodies::new(alloc, program.type_defs(), any.at())?;
+    let names = TypeNames::new(alloc, program.type_defs())?;
+    let bodies = TypeBodies {
+        names,
+        any: any.at(),
+    };
     let mut auto = Auto::new(alloc);
     let marked = compile_pattern(
         alloc,

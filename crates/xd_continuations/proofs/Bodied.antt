@@ -1,5 +1,5 @@
 -- Names stand for what their first definitions do.
-use Rattle.std.proofs.Common.{◌≡◌, ℕ, ◌<◌, Bool, true, false, cond, List, [], ◌∷◌, map, length, Option, None, Some, refl, ap, sym, subst, ◌∙◌}
+use Rattle.std.proofs.Common.{◌≡◌, ℕ, ◌<◌, Bool, true, false, cond, List, [], ◌∷◌, map, length, Option, Some, refl, ap, sym, subst}
 use Rattle.std.specs.Str.{bytes_eq}
 use Rattle.std.specs.List.{AllByRecursion}
 use Rattle.xd_syntax.specs.Words.{any_word}
@@ -13,29 +13,28 @@ use Rattle.xd_syntax.specs.SoundTables.{definition_of}
 use Rattle.xd_syntax.specs.declared.types.TypeDef.{TypeDef}
 use Rattle.xd_sound.specs.TypeNames.{AreNumbered, body_at, meanings}
 use Rattle.xd_syntax.proofs.PlacedTrees.{unplaced_at}
-use Rattle.xd_continuations.specs.Bodies.{AreBodies, tree_of_body}
+use Rattle.xd_continuations.specs.Bodies.{AreBodies, node_of, tree_of_body}
 use Rattle.xd_continuations.specs.declared.bodies.TypeBodies.{TypeBodies}
 
 abbrev pair : TypeDefinition → List ℕ × Tree
 pair t = (t.name, unplaced t.body)
 
 -- the node of a name, or of `Any`, has as its tree what the name stands for
-module _ (types : List Row) (tree_of : Option ℕ → Option Tree) (none : tree_of None ≡ None) (some : (i : ℕ) → tree_of (Some i) ≡ Some (tree_at types i)) where
-  defined : (ds : List TypeDef) (w : List ℕ) → tree_of (body_at (definition_of ds w)) ≡ body (map pair (map (type_definition types) ds)) w
-  defined [] w = none
-  defined (d ∷ ds) w = go (bytes_eq d.name w) (defined ds w)
-    where
-      go : (b : Bool) → tree_of (body_at (definition_of ds w)) ≡ body (map pair (map (type_definition types) ds)) w →
-          tree_of (body_at (cond b (Some d) (definition_of ds w))) ≡ cond b (Some (unplaced (placed_at types d.body.at))) (body (map pair (map (type_definition types) ds)) w)
-      go true i = some d.body.at ∙ ap Some (sym (unplaced_at types d.body.at))
-      go false i = i
+defined : (types : List Row) (ds : List TypeDef) (w : List ℕ) → tree_of_body types (body_at (definition_of ds w)) ≡ body (map pair (map (type_definition types) ds)) w
+defined types [] w = refl
+defined types (d ∷ ds) w = go (bytes_eq d.name w) (defined types ds w)
+  where
+    go : (b : Bool) → tree_of_body types (body_at (definition_of ds w)) ≡ body (map pair (map (type_definition types) ds)) w →
+        tree_of_body types (body_at (cond b (Some d) (definition_of ds w))) ≡ cond b (Some (unplaced (placed_at types d.body.at))) (body (map pair (map (type_definition types) ds)) w)
+    go true i = ap Some (sym (unplaced_at types d.body.at))
+    go false i = i
 
-  pub node_trees : (ds : List TypeDef) (any : ℕ) → tree_at types any ≡ any_type → (w : List ℕ) → tree_of (cond (bytes_eq any_word w) (Some any) (body_at (definition_of ds w))) ≡ body (meanings types ds) w
-  node_trees ds any t w = go (bytes_eq any_word w)
-    where
-      go : (b : Bool) → tree_of (cond b (Some any) (body_at (definition_of ds w))) ≡ cond b (Some any_type) (body (map pair (map (type_definition types) ds)) w)
-      go true = some any ∙ ap Some t
-      go false = defined ds w
+node_trees : (types : List Row) (ds : List TypeDef) (any : ℕ) → tree_at types any ≡ any_type → (w : List ℕ) → tree_of_body types (node_of ds any w) ≡ body (meanings types ds) w
+node_trees types ds any t w = go (bytes_eq any_word w)
+  where
+    go : (b : Bool) → tree_of_body types (cond b (Some any) (body_at (definition_of ds w))) ≡ cond b (Some any_type) (body (map pair (map (type_definition types) ds)) w)
+    go true = ap Some t
+    go false = defined types ds w
 
 -- and it is one of the table
 inside : (types : List Row) (ds : List TypeDef) → AllByRecursion (λ (d : TypeDef). d.body.at < length types) ds → (w : List ℕ) (i : ℕ) → body_at (definition_of ds w) ≡ Some i → i < length types
@@ -46,8 +45,8 @@ inside types (d ∷ ds) a w i e = go (bytes_eq d.name w) e (λ k. inside types d
     go true k rec = let q : d.body.at ≡ i = cc in subst (λ j. j < length types) q a.0
     go false k rec = rec k
 
-pub nodes_within : (types : List Row) (ds : List TypeDef) (any : ℕ) → AllByRecursion (λ (d : TypeDef). d.body.at < length types) ds → any < length types →
-    (w : List ℕ) (i : ℕ) → cond (bytes_eq any_word w) (Some any) (body_at (definition_of ds w)) ≡ Some i → i < length types
+nodes_within : (types : List Row) (ds : List TypeDef) (any : ℕ) → AllByRecursion (λ (d : TypeDef). d.body.at < length types) ds → any < length types →
+    (w : List ℕ) (i : ℕ) → node_of ds any w ≡ Some i → i < length types
 nodes_within types ds any a h w i e = go (bytes_eq any_word w) e
   where
     go : (b : Bool) → cond b (Some any) (body_at (definition_of ds w)) ≡ Some i → i < length types
@@ -56,8 +55,4 @@ nodes_within types ds any a h w i e = go (bytes_eq any_word w) e
 
 pub are_bodies : (types : List Row) (ds : List TypeDef) (b : TypeBodies) → AllByRecursion (λ (d : TypeDef). d.body.at < length types) ds → AreNumbered b.names ds → b.any < length types → tree_at types b.any ≡ any_type →
     AreBodies types ds b
-are_bodies types ds b a n h t = record {
-  numbered = n;
-  right = node_trees types (tree_of_body types) refl (λ i. refl) ds b.any t;
-  within = nodes_within types ds b.any a h;
-}
+are_bodies types ds b a n h t = record { numbered = n; right = node_trees types ds b.any t; within = nodes_within types ds b.any a h }

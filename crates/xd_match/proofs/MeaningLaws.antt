@@ -13,8 +13,8 @@ use Rattle.xd_syntax.specs.declared.types.TypeDef.{TypeDef}
 use Rattle.xd_syntax.proofs.PlacedTrees.{placed_kept}
 use Rattle.xd_syntax.proofs.TableRows.{KeepsRows-length, KeepsRows-tree}
 use Rattle.xd_sound.proofs.EmptyLemmas.{bodies_below}
-use Rattle.xd_patterns.specs.Bodies.{IsNodeOf, node_of}
-use Rattle.xd_patterns.proofs.Bodied.{are_bodies}
+use Rattle.xd_sound.specs.TypeNames.{AreNumbered}
+use Rattle.xd_continuations.proofs.Bodied.{are_bodies}
 use Rattle.xd_match.specs.Meanings.{Means}
 use Rattle.xd_match.specs.declared.meanings.Meanings.{Meanings}
 
@@ -35,9 +35,8 @@ definitions_stay old new k (d ∷ ds) s =
     ap (λ (A : PlacedTree). (d.name, unplaced A) ∷ map pair (map (type_definition new) ds)) (ap (λ rs. placed_at rs d.body.at) k.grown ∙ placed_kept old k.more d.body.at s.0.body)
     ∙ ap (λ (E : Definitions). (d.name, unplaced (placed_at old d.body.at)) ∷ E) (definitions_stay old new k ds s.1)
 
-pub means : (p : ProgramTable) (m : Meanings) → KeepsRows p.types m.types → ProgramStands p → (any : ℕ) → any < length m.types → tree_at m.types any ≡ any_type →
-    ((w : List ℕ) → IsNodeOf p.type_defs any w (node_of m.bodies w)) → Means p m
-means p m k stands any there is nodes = record {
+pub means : (p : ProgramTable) (m : Meanings) → KeepsRows p.types m.types → ProgramStands p → AreNumbered m.bodies.names p.type_defs → m.bodies.any < length m.types → tree_at m.types m.bodies.any ≡ any_type → Means p m
+means p m k stands numbered there is = record {
   names = ap (λ (E : Definitions). (any_word, any_type) ∷ E) (definitions_stay p.types m.types k p.type_defs stands.type_defs);
-  bodies = are_bodies m.types p.type_defs any (node_of m.bodies) (bodies_below p.types (length m.types) (KeepsRows-length p.types m.types k) p.type_defs stands.type_defs) there is nodes;
+  bodies = are_bodies m.types p.type_defs m.bodies (bodies_below p.types (length m.types) (KeepsRows-length p.types m.types k) p.type_defs stands.type_defs) numbered there is;
 }

@@ -8,8 +8,9 @@ ghost use Rattle.xd_match.specs.Meanings.{Means};
 
 use std::alloc::Global;
 use xd_base::Place;
+use xd_continuations::TypeBodies;
 use xd_doc::{Class, Label, NoMemory};
-use xd_patterns::Bodies;
+use xd_sound::TypeNames;
 use xd_syntax::{Program, TypeForm, TypeId, Types};
 
 /// What the names of a program's types stand for: nodes of a copy of its types, to which those of
@@ -17,7 +18,7 @@ use xd_syntax::{Program, TypeForm, TypeId, Types};
 #[derive(Drop)]
 pub(crate) struct Meanings {
     pub types: Types,
-    pub bodies: Bodies,
+    pub bodies: TypeBodies,
 }
 
 impl Meanings {
@@ -26,7 +27,11 @@ impl Meanings {
     {
         let mut types = program.types().copy(alloc)?;
         let any = add_any(alloc, &mut types)?;
-        let bodies = Bodies::new(alloc, program.type_defs(), any.at())?;
+        let names = TypeNames::new(alloc, program.type_defs())?;
+        let bodies = TypeBodies {
+            names,
+            any: any.at(),
+        };
         Ok(Self { types, bodies })
     }
 }

@@ -7,19 +7,17 @@ use Rattle.std.specs.List.{AllByRecursion, AllZip, slice_get}
 use Rattle.xd_doc.proofs.Numbers.{less_cases}
 use Rattle.xd_syntax.specs.Tree.{Definitions, Tree}
 use Rattle.xd_auto.specs.declared.auto.State.{State}
-use Rattle.xd_auto.specs.declared.auto.LabelMove.{LabelMove}
-use Rattle.xd_auto.specs.declared.auto.TextMove.{TextMove}
 use Rattle.xd_auto.specs.Automaton.{Automaton, StateMoves, moves_at, no_moves, state_number}
 use Rattle.xd_pattern_runs.specs.Alike.{Alike}
 use Rattle.xd_pattern_runs.specs.Runs as Runs
 use Rattle.xd_pattern_runs.specs.Runs.{Continuation, Choice, choices, start, texts_of, elements_of}
 use Rattle.xd_pattern_runs.specs.Steps.{marked}
-use Rattle.xd_pattern_runs.specs.Mirrors.{Ahead, SameText, SameElement, AreMovesOf, Mirrors}
+use Rattle.xd_pattern_runs.specs.Mirrors.{SameText, SameElement, AreMovesOf, Mirrors}
 use Rattle.xd_continuations.specs.Chains.{list_at}
 use Rattle.xd_patterns.specs.Marked.{marked_text, marked_label, with_each, marked_moves}
 use Rattle.xd_patterns.specs.Tasks.{Tables, words_at, piece_part, pieces_at, continuation, ArePieces, Adds}
 use Rattle.xd_patterns.specs.Pieces.{form_at, variable_of}
-use Rattle.xd_patterns.specs.Compiling.{stands, standing, TextsAre, LabelsAre, Makes, IsDone, texts_at, labels_at, rows_in, IsCompiling, marking}
+use Rattle.xd_patterns.specs.Compiling.{stands, standing, AreMoves, Makes, IsDone, texts_at, labels_at, rows_in, IsCompiling, marking}
 use Rattle.xd_continuations.specs.declared.links.Link.{Link}
 use Rattle.xd_patterns.specs.declared.chains.Piece.{Piece}
 use Rattle.xd_patterns.specs.declared.compile.StateMarks.{StateMarks}
@@ -106,21 +104,13 @@ compiling_more E t m0 m m' c0 c c' base number states0 states states' auto0 auto
 
 -- at the end the automaton mirrors the lists
 
-texts_zip : (t : Tables) (m : List (Link ℕ)) (A : Ahead State) (is : List ℕ) (vs : List TextMove) (ns : List (Runs.TextMove Continuation)) → TextsAre t m A is vs ns → AllZip (SameText A) (with_each marked_text (map (words_at t m) is) vs) ns
-texts_zip t m A [] [] [] x = tt
-texts_zip t m A (i ∷ is) (v ∷ vs) (n ∷ ns) x = (record { words = x.1; marks = x.2; rest = x.3 }, texts_zip t m A is vs ns x.4)
-texts_zip t m A [] [] (n ∷ ns) x = absurd x
-texts_zip t m A [] (v ∷ vs) ns x = absurd x
-texts_zip t m A (i ∷ is) [] ns x = absurd x
-texts_zip t m A (i ∷ is) (v ∷ vs) [] x = absurd x
-
-labels_zip : (t : Tables) (m : List (Link ℕ)) (A : Ahead State) (is : List ℕ) (vs : List LabelMove) (ns : List (Runs.ElementMove Continuation)) → LabelsAre t m A is vs ns → AllZip (SameElement A) (with_each marked_label (map (words_at t m) is) vs) ns
-labels_zip t m A [] [] [] x = tt
-labels_zip t m A (i ∷ is) (v ∷ vs) (n ∷ ns) x = (record { class = x.1; content = x.2; marks = x.3; rest = x.4 }, labels_zip t m A is vs ns x.5)
-labels_zip t m A [] [] (n ∷ ns) x = absurd x
-labels_zip t m A [] (v ∷ vs) ns x = absurd x
-labels_zip t m A (i ∷ is) [] ns x = absurd x
-labels_zip t m A (i ∷ is) (v ∷ vs) [] x = absurd x
+moves_zip : {V W N : Type 0} (t : Tables) (m : List (Link ℕ)) (f : List (List ℕ) → V → W) (R : W → N → Type 0) (is : List ℕ) (vs : List V) (ns : List N) → AreMoves t m f R is vs ns → AllZip R (with_each f (map (words_at t m) is) vs) ns
+moves_zip t m f R [] [] [] x = tt
+moves_zip t m f R (i ∷ is) (v ∷ vs) (n ∷ ns) x = (x.1, moves_zip t m f R is vs ns x.2)
+moves_zip t m f R [] [] (n ∷ ns) x = absurd x
+moves_zip t m f R [] (v ∷ vs) ns x = absurd x
+moves_zip t m f R (i ∷ is) [] ns x = absurd x
+moves_zip t m f R (i ∷ is) (v ∷ vs) [] x = absurd x
 
 pub get_within : (xs : List ℕ) (n k : ℕ) → slice_get xs n ≡ Some k → n < length xs
 get_within [] n k e = cc
@@ -154,8 +144,8 @@ compiled_mirrors E t m0 m c0 c base states0 states auto0 auto rows i = record { 
           subst (λ L. Alike d.found (choices E L)) (ap (continuation t m c) k ∙ q) d.alike,
           subst (λ b. AreMovesOf (standing t m c base states) (moves_if b) d.found) (sym f) (record {
             last = d.has.last;
-            texts = texts_zip t m (standing t m c base states) (texts_at rows (state_number s - base)) (moves_at auto s).texts (texts_of d.found) d.has.text_moves;
-            elements = labels_zip t m (standing t m c base states) (labels_at rows (state_number s - base)) (moves_at auto s).labels (elements_of d.found) d.has.label_moves;
+            texts = moves_zip t m marked_text (SameText (standing t m c base states)) (texts_at rows (state_number s - base)) (moves_at auto s).texts (texts_of d.found) d.has.text_moves;
+            elements = moves_zip t m marked_label (SameElement (standing t m c base states)) (labels_at rows (state_number s - base)) (moves_at auto s).labels (elements_of d.found) d.has.label_moves;
           }),
         )
 

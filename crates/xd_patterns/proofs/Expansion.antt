@@ -16,7 +16,7 @@ use Rattle.xd_pattern_runs.specs.Steps.{Ahead, ahead, choices_ahead, part_choice
 use Rattle.xd_pattern_runs.proofs.Alike.{alike_refl, alike_same, alike_sym, alike_trans, alike_append, alike_known, append_then}
 use Rattle.xd_pattern_runs.proofs.ChoicesLemmas.{steps_find}
 use Rattle.xd_continuations.specs.Chains.{list_at, AreLinks}
-use Rattle.xd_patterns.specs.Tasks.{Tables, AreBodies, words_at, piece_part, pieces_at, continuation, ArePieces, or_none, IsTurn, StandsFor, item_choice, choice_at, IsFound, StandFound, Collects, Adds, HasFound, IsStep}
+use Rattle.xd_patterns.specs.Tasks.{Tables, words_at, piece_part, pieces_at, continuation, ArePieces, or_none, IsTurn, StandsFor, item_choice, choice_at, IsFound, StandFound, Collects, Adds, HasFound, IsStep}
 use Rattle.xd_patterns.specs.Work.{steps_of, work_left}
 use Rattle.xd_patterns.specs.Expanding.{ends_turn, IsExpanded, before_end, task_steps, all_steps, IsExpanding, IsGoneThrough, IsVisited, AreFound}
 use Rattle.xd_continuations.specs.declared.links.Link.{Link}
@@ -95,9 +95,9 @@ module _ (E : Definitions) (t : Tables) (m : List (Link ℕ)) (c : List (Link Pi
   first_front links (Some j) n q K [] (Some L) h l e i k = absurd (other_nat j n e (one_number c links j n i.0 h (i.1 ∙ sym k)))
   first_front links o n q K (p ∷ G) u h l e i k = let z : q ∷ K ≡ p ∷ (G ++ or_none u) = sym l ∙ k in (G, cc, cc)
 
-  pub step_expanded : Guarded E → AreLinks c → ArePieces t m c → (N : List ℕ → Option ℕ) → AreBodies t.types E N → (m' : List (Link ℕ)) (c' : List (Link Piece)) (xs ys : List Task) (fs gs : List Found) (x : Task) (a : Ahead) (q : Piece) (behind : ℕ) →
+  pub step_expanded : Guarded E → AreLinks c → ArePieces t m c → (m' : List (Link ℕ)) (c' : List (Link Piece)) (xs ys : List Task) (fs gs : List Found) (x : Task) (a : Ahead) (q : Piece) (behind : ℕ) →
       x.cell ≤ length c → list_at c x.cell ≡ q ∷ list_at c behind → ends_turn x.turn x.cell ≡ false → IsStep t E m m' c c' xs ys fs gs q behind x.turn → StandsFor t m c x a → IsExpanded E t m m' c c' xs ys fs gs a
-  step_expanded guarded links p N b m' c' xs ys fs gs x a q behind h l e step s =
+  step_expanded guarded links p m' c' xs ys fs gs x a q behind h l e step s =
       let r = first_front links x.turn x.cell q (list_at c behind) s.front s.turn h l e s.turned s.list in
       let F : Continuation = pieces_at t m r.0 in
       let u : Option Continuation = option_map (pieces_at t m) s.turn in

@@ -3,7 +3,6 @@ pub mod WordLemmas
 pub mod MarkedLaw
 pub mod MarksLaw
 pub mod ViewLemmas
-pub mod Bodied
 pub mod HasFoundLemmas
 pub mod TablesLemmas
 pub mod StepArms

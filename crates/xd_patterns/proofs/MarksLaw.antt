@@ -1,6 +1,6 @@
 -- What a compiled pattern owes stays where each move keeps the marks that are the pattern's
 -- variables.
-use Rattle.std.proofs.Common.{◌≡◌, ℕ, Bool, true, false, ◌&&◌, cond, List, [], ◌∷◌, map, get_or, Some, option_map, refl, ap, sym, ◌∙◌, inl, inr}
+use Rattle.std.proofs.Common.{◌≡◌, ℕ, ◌+◌, Bool, true, false, ◌&&◌, cond, List, [], ◌∷◌, map, length, get_or, Some, option_map, refl, ap, sym, ◌∙◌, inl, inr}
 use Rattle.xd_doc.specs.Document.{Document, empty, text, element, join}
 use Rattle.xd_auto.specs.declared.auto.State.{State}
 use Rattle.xd_auto.specs.Automaton.{Automaton, moves_at}
@@ -14,10 +14,16 @@ use Rattle.xd_pattern_runs.specs.Runs.{held}
 use Rattle.xd_pattern_runs.specs.Laws.{Agree, run_bindings, first_of}
 use Rattle.xd_pattern_runs.specs.Together as T
 use Rattle.xd_pattern_runs.specs.Together.{IsFree, IsBlock, AreTogether}
+use Rattle.xd_continuations.specs.declared.links.Link.{Link}
 use Rattle.xd_continuations.proofs.LeadsToLemmas.{among_has}
 use Rattle.xd_patterns.specs.CompiledProgram.{AreWithin}
+use Rattle.xd_patterns.specs.Compiling.{labels_from, marking, rows_in, texts_from}
+use Rattle.xd_patterns.specs.Held.{marking_in}
+use Rattle.xd_patterns.specs.Tasks.{Tables}
+use Rattle.xd_patterns.specs.Variables.{AreNumbered, numbers_in}
+use Rattle.xd_patterns.specs.declared.mark_table.MarkTable.{MarkTable}
 use Rattle.xd_patterns.specs.Marked.{Marking, no_text_move, no_label_move, with_marks, IsCompiled}
-use Rattle.xd_patterns.proofs.VariableLemmas.{variables_have}
+use Rattle.xd_patterns.proofs.VariableLemmas.{variables_have, marks_kept}
 
 module _ (a : Automaton) (k k' : Marking) (x : List ℕ) where
   -- each move has the mark or lacks it as before
@@ -106,3 +112,10 @@ kept_is_compiled E P a k k' s vs within h c = record {
     firsts : (d : Document) (rs : List Numbered.Run) → option_map (run_bindings (variables_of P) d) (first_of (map (with_marks a k' s) rs)) ≡ option_map (run_bindings (variables_of P) d) (first_of (map (with_marks a k s) rs))
     firsts d [] = refl
     firsts d (r ∷ rs) = ap Some (bindings d r (variables_of P) (λ x i. among_has (variables_of P) x i))
+
+-- the marks of a table's moves are those of its words that its lists of binders have
+pub table_keeps : (t : Tables) (m : List (Link ℕ)) (table : MarkTable) → AreNumbered t.patterns table.words.keys m (length m + 1) (numbers_in table.lists.items) →
+    Keeps table.words.keys (marking t m table.base (rows_in table.rows.items)) (marking_in table)
+table_keeps t m table h q n x =
+    let kept = marks_kept t.patterns table.words.keys m (numbers_in table.lists.items) h in
+    let rows = rows_in table.rows.items in (kept (texts_from table.base rows q) n x, kept (labels_from table.base rows q) n x)

@@ -13,12 +13,12 @@ use Rattle.xd_auto.specs.declared.auto.State.{State}
 use Rattle.xd_auto.specs.declared.auto.LabelMove.{LabelMove}
 use Rattle.xd_auto.specs.declared.auto.TextMove.{TextMove}
 use Rattle.xd_auto.specs.Automaton.{Automaton, StateMoves, moves_at, no_moves, state_number, with_moves, with_last}
-use Rattle.xd_pattern_runs.specs.Runs as Runs
 use Rattle.xd_pattern_runs.specs.Runs.{Continuation, Choice, stop, take_text, take_element, has_stop, texts_of, elements_of}
-use Rattle.xd_pattern_runs.specs.Mirrors.{Ahead}
+use Rattle.xd_pattern_runs.specs.Mirrors.{Ahead, SameText, SameElement}
 use Rattle.xd_continuations.specs.Chains.{list_at, KeepsLinks}
 use Rattle.xd_patterns.specs.Tasks.{Tables, words_at, pieces_at, continuation, ArePieces, Adds}
-use Rattle.xd_patterns.specs.Compiling.{stands, standing, FindsState, AddsStates, AddsText, AddsElement, TextsAre, LabelsAre, HasMoves, AddsMove}
+use Rattle.xd_patterns.specs.Marked.{marked_text, marked_label}
+use Rattle.xd_patterns.specs.Compiling.{stands, standing, FindsState, AddsStates, AddsText, AddsElement, AreMoves, TextsAre, LabelsAre, HasMoves, AddsMove}
 use Rattle.xd_continuations.specs.declared.links.Link.{Link}
 use Rattle.xd_patterns.specs.declared.chains.Piece.{Piece}
 use Rattle.xd_continuations.proofs.ChainLemmas.{kept_list, kept_length, kept_same}
@@ -117,50 +117,39 @@ pub standing_at : (t : Tables) (m : List (Link ℕ)) (c : List (Link Piece)) (ba
     standing t m c base states s ≡ Some (continuation t m c n)
 standing_at t m c base states s n h e = ap (λ b. cond b None (stands t m c (slice_get states (state_number s - base)))) (not_below (state_number s) base h) ∙ ap (stands t m c) e
 
-pub texts_kept : (t : Tables) (m m' : List (Link ℕ)) (A B : Ahead State) → KeepsLinks m m' → StaysAhead A B → (is : List ℕ) (vs : List TextMove) (ns : List (Runs.TextMove Continuation)) → TextsAre t m A is vs ns → TextsAre t m' B is vs ns
-texts_kept t m m' A B k h [] [] [] x = tt
-texts_kept t m m' A B k h (i ∷ is) (v ∷ vs) (n ∷ ns) x =
-    ((let l = kept_length m m' k in let j = x.0 in omega arith), x.1, same_words t m m' k i x.0 ∙ x.2, h v.rest n.rest x.3, texts_kept t m m' A B k h is vs ns x.4)
-texts_kept t m m' A B k h [] [] (n ∷ ns) x = absurd x
-texts_kept t m m' A B k h [] (v ∷ vs) ns x = absurd x
-texts_kept t m m' A B k h (i ∷ is) [] ns x = absurd x
-texts_kept t m m' A B k h (i ∷ is) (v ∷ vs) [] x = absurd x
-
-pub labels_kept : (t : Tables) (m m' : List (Link ℕ)) (A B : Ahead State) → KeepsLinks m m' → StaysAhead A B → (is : List ℕ) (vs : List LabelMove) (ns : List (Runs.ElementMove Continuation)) → LabelsAre t m A is vs ns → LabelsAre t m' B is vs ns
-labels_kept t m m' A B k h [] [] [] x = tt
-labels_kept t m m' A B k h (i ∷ is) (v ∷ vs) (n ∷ ns) x =
-    ((let l = kept_length m m' k in let j = x.0 in omega arith), x.1, h v.content n.content x.2, same_words t m m' k i x.0 ∙ x.3, h v.rest n.rest x.4, labels_kept t m m' A B k h is vs ns x.5)
-labels_kept t m m' A B k h [] [] (n ∷ ns) x = absurd x
-labels_kept t m m' A B k h [] (v ∷ vs) ns x = absurd x
-labels_kept t m m' A B k h (i ∷ is) [] ns x = absurd x
-labels_kept t m m' A B k h (i ∷ is) (v ∷ vs) [] x = absurd x
+are_kept : {V W N : Type 0} (t : Tables) (m m' : List (Link ℕ)) (f : List (List ℕ) → V → W) (R S : W → N → Type 0) → KeepsLinks m m' → ((w : W) (n : N) → R w n → S w n) → (is : List ℕ) (vs : List V) (ns : List N) →
+    AreMoves t m f R is vs ns → AreMoves t m' f S is vs ns
+are_kept t m m' f R S k h [] [] [] x = tt
+are_kept t m m' f R S k h (i ∷ is) (v ∷ vs) (n ∷ ns) x = (
+  let l = kept_length m m' k in let j = x.0 in omega arith,
+  subst (λ xs. S (f xs v) n) (sym (same_words t m m' k i x.0)) (h (f (words_at t m i) v) n x.1),
+  are_kept t m m' f R S k h is vs ns x.2,
+)
+are_kept t m m' f R S k h [] [] (n ∷ ns) x = absurd x
+are_kept t m m' f R S k h [] (v ∷ vs) ns x = absurd x
+are_kept t m m' f R S k h (i ∷ is) [] ns x = absurd x
+are_kept t m m' f R S k h (i ∷ is) (v ∷ vs) [] x = absurd x
 
 pub moves_kept : (t : Tables) (m m' : List (Link ℕ)) (A B : Ahead State) (v : StateMoves) (ts ls : List ℕ) (cs : List Choice) → KeepsLinks m m' → StaysAhead A B → HasMoves t m A v ts ls cs → HasMoves t m' B v ts ls cs
 moves_kept t m m' A B v ts ls cs k h x = record {
   last = x.last;
-  text_moves = texts_kept t m m' A B k h ts v.texts (texts_of cs) x.text_moves;
-  label_moves = labels_kept t m m' A B k h ls v.labels (elements_of cs) x.label_moves;
+  text_moves =
+      are_kept t m m' marked_text (SameText A) (SameText B) k (λ w n e. record { words = e.words; marks = e.marks; rest = h w.rest n.rest e.rest }) ts v.texts (texts_of cs) x.text_moves;
+  label_moves =
+      are_kept t m m' marked_label (SameElement A) (SameElement B) k (λ w n e. record { class = e.class; content = h w.content n.content e.content; marks = e.marks; rest = h w.rest n.rest e.rest }) ls
+      v.labels (elements_of cs) x.label_moves;
 }
 
 -- one more move
 
-texts_push : (t : Tables) (m : List (Link ℕ)) (A : Ahead State) (is : List ℕ) (vs : List TextMove) (ns : List (Runs.TextMove Continuation)) (i : ℕ) (v : TextMove) (n : Runs.TextMove Continuation) → TextsAre t m A is vs ns →
-    i ≤ length m → v.words ≡ n.words → words_at t m i ≡ n.marks → A v.rest ≡ Some n.rest → TextsAre t m A (is ++ i ∷ []) (vs ++ v ∷ []) (ns ++ n ∷ [])
-texts_push t m A [] [] [] i v n x a b c d = (a, b, c, d, tt)
-texts_push t m A (j ∷ is) (w ∷ vs) (o ∷ ns) i v n x a b c d = (x.0, x.1, x.2, x.3, texts_push t m A is vs ns i v n x.4 a b c d)
-texts_push t m A [] [] (o ∷ ns) i v n x a b c d = absurd x
-texts_push t m A [] (w ∷ vs) ns i v n x a b c d = absurd x
-texts_push t m A (j ∷ is) [] ns i v n x a b c d = absurd x
-texts_push t m A (j ∷ is) (w ∷ vs) [] i v n x a b c d = absurd x
-
-labels_push : (t : Tables) (m : List (Link ℕ)) (A : Ahead State) (is : List ℕ) (vs : List LabelMove) (ns : List (Runs.ElementMove Continuation)) (i : ℕ) (v : LabelMove) (n : Runs.ElementMove Continuation) → LabelsAre t m A is vs ns →
-    i ≤ length m → v.class ≡ n.class → A v.content ≡ Some n.content → words_at t m i ≡ n.marks → A v.rest ≡ Some n.rest → LabelsAre t m A (is ++ i ∷ []) (vs ++ v ∷ []) (ns ++ n ∷ [])
-labels_push t m A [] [] [] i v n x a b e c d = (a, b, e, c, d, tt)
-labels_push t m A (j ∷ is) (w ∷ vs) (o ∷ ns) i v n x a b e c d = (x.0, x.1, x.2, x.3, x.4, labels_push t m A is vs ns i v n x.5 a b e c d)
-labels_push t m A [] [] (o ∷ ns) i v n x a b e c d = absurd x
-labels_push t m A [] (w ∷ vs) ns i v n x a b e c d = absurd x
-labels_push t m A (j ∷ is) [] ns i v n x a b e c d = absurd x
-labels_push t m A (j ∷ is) (w ∷ vs) [] i v n x a b e c d = absurd x
+are_push : {V W N : Type 0} (t : Tables) (m : List (Link ℕ)) (f : List (List ℕ) → V → W) (R : W → N → Type 0) (is : List ℕ) (vs : List V) (ns : List N) (i : ℕ) (v : V) (n : N) → AreMoves t m f R is vs ns → i ≤ length m →
+    R (f (words_at t m i) v) n → AreMoves t m f R (is ++ i ∷ []) (vs ++ v ∷ []) (ns ++ n ∷ [])
+are_push t m f R [] [] [] i v n x a b = (a, b, tt)
+are_push t m f R (j ∷ is) (w ∷ vs) (o ∷ ns) i v n x a b = (x.0, x.1, are_push t m f R is vs ns i v n x.2 a b)
+are_push t m f R [] [] (o ∷ ns) i v n x a b = absurd x
+are_push t m f R [] (w ∷ vs) ns i v n x a b = absurd x
+are_push t m f R (j ∷ is) [] ns i v n x a b = absurd x
+are_push t m f R (j ∷ is) (w ∷ vs) [] i v n x a b = absurd x
 
 texts_more : (cs : List Choice) (x : Choice) → texts_of (cs ++ x ∷ []) ≡ texts_of cs ++ texts_of (x ∷ [])
 texts_more [] x = refl
@@ -192,7 +181,7 @@ pub has_text_more : (t : Tables) (m : List (Link ℕ)) (A : Ahead State) (v : St
 has_text_more t m A v ts ls cs i w R x h r =
     let y : Choice = take_text w.words (words_at t m i) R in record {
       last = x.last ∙ sym (or_false (has_stop cs)) ∙ sym (stop_more cs y);
-      text_moves = subst (TextsAre t m A (ts ++ i ∷ []) (v.texts ++ w ∷ [])) (sym (texts_more cs y)) (texts_push t m A ts v.texts (texts_of cs) i w (record { words = w.words; marks = words_at t m i; rest = R }) x.text_moves h refl refl r);
+      text_moves = subst (TextsAre t m A (ts ++ i ∷ []) (v.texts ++ w ∷ [])) (sym (texts_more cs y)) (are_push t m marked_text (SameText A) ts v.texts (texts_of cs) i w (record { words = w.words; marks = words_at t m i; rest = R }) x.text_moves h (record { words = refl; marks = refl; rest = r }));
       label_moves = subst (LabelsAre t m A ls v.labels) (sym (elements_more cs y ∙ append-nil (elements_of cs))) x.label_moves;
     }
 
@@ -204,7 +193,8 @@ has_label_more t m A v ts ls cs i w C R x h q r =
       text_moves = subst (TextsAre t m A ts v.texts) (sym (texts_more cs y ∙ append-nil (texts_of cs))) x.text_moves;
       label_moves =
           subst (LabelsAre t m A (ls ++ i ∷ []) (v.labels ++ w ∷ [])) (sym (elements_more cs y))
-          (labels_push t m A ls v.labels (elements_of cs) i w (record { class = w.class; content = C; marks = words_at t m i; rest = R }) x.label_moves h refl q refl r);
+          (are_push t m marked_label (SameElement A) ls v.labels (elements_of cs) i w (record { class = w.class; content = C; marks = words_at t m i; rest = R }) x.label_moves h
+          (record { class = refl; content = q; marks = refl; rest = r }));
     }
 
 -- what a changed state has

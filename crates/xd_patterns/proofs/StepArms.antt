@@ -1,15 +1,15 @@
 -- The step of each form of a piece.
-use Rattle.std.proofs.Common.{◌≡◌, ℕ, ◌≤◌, arith, Bool, true, false, List, [], ◌∷◌, ◌++◌, map, length, append-nil, Option, Some, None, option_map, refl, ap, sym, subst, ◌∙◌, inr}
+use Rattle.std.proofs.Common.{◌≡◌, ℕ, ◌<◌, ◌≤◌, arith, Bool, true, false, List, [], ◌∷◌, ◌++◌, map, length, append-nil, Option, Some, None, option_map, refl, ap, sym, subst, ◌∙◌, inr}
 use Rattle.std.specs.List.{AllByRecursion}
 use Rattle.xd_doc.specs.Classes.{LabelClass, TextClass}
 use Rattle.xd_doc.proofs.Lists.{map_append, all_front, all_back}
 use Rattle.xd_syntax.specs.Tree.{Tree, Empty, Text, Words, Name, Elem, Seq, Alt, Star, Plus, Opt, Val, Definitions, body}
-use Rattle.xd_syntax.specs.Table.{tree_at}
 use Rattle.xd_pattern_runs.specs.Runs.{Continuation}
 use Rattle.xd_pattern_runs.specs.Steps.{ahead, marked, behind_turn, part_choice, part_steps, body_steps}
+use Rattle.xd_continuations.specs.Bodies.{tree_of_body}
 use Rattle.xd_continuations.specs.Chains.{list_at, KeepsLinks}
 use Rattle.xd_patterns.specs.Pieces.{Sees, form_at, part_of, variable_of, IsLike, IsPieceOf, IsBinder}
-use Rattle.xd_patterns.specs.Tasks.{Tables, rows_of, tree_of_body, AreBodies, words_at, piece_part, piece_at, pieces_at, continuation, IsPiece, ArePieces, or_none, IsTurn, StandsFor, PutsTasks, item_choice, is_item, Collects, Adds, PushesPart, PushesRow, PushesBody, IsBound, HasFound, IsStep}
+use Rattle.xd_patterns.specs.Tasks.{Tables, rows_of, words_at, piece_part, piece_at, pieces_at, continuation, IsPiece, ArePieces, or_none, IsTurn, StandsFor, PutsTasks, item_choice, is_item, Collects, Adds, PushesPart, PushesRow, PushesBody, IsBound, HasFound, IsStep}
 use Rattle.xd_continuations.specs.declared.links.Link.{Link}
 use Rattle.xd_patterns.specs.declared.chains.Piece.{Piece}
 use Rattle.xd_patterns.specs.declared.pieces.View.TheVariants as V
@@ -101,26 +101,21 @@ module _ (t : Tables) (E : Definitions) (m : List (Link ℕ)) (c : List (Link Pi
       go F None = ap (λ z. item_choice (words_at t m q.marks) (Elem k T) z ∷ []) (append-nil F)
       go F (Some K) = refl
 
-  pub name_arm : (c' : List (Link Piece)) (xs ys : List Task) (fs : List Found) (y : List ℕ) (N : List ℕ → Option ℕ) → AreBodies t.types E N → piece_part t q ≡ Name y → PushesBody (N y) c c' xs ys q.marks behind o →
-      IsStep t E m m c c' xs ys fs fs q behind o
-  name_arm c' xs ys fs y N b e h = go (N y) refl h
-    where
-      go : (n : Option ℕ) → N y ≡ n → PushesBody n c c' xs ys q.marks behind o → IsStep t E m m c c' xs ys fs fs q behind o
-      go None k h =
-          let none : body E y ≡ None = sym (b.right y) ∙ ap (tree_of_body t.types) k in
-          step_with m c' xs ys fs fs (Name y) e (subst (Adds t m m c) (sym h.0) (adds_none t m c))
-          (λ F u l i p. subst (λ r. PutsTasks t m c' xs ys (body_steps (words_at t m q.marks) r (pieces_at t m F) (option_map (pieces_at t m) u))) (sym none) (puts_none t m c' xs ys h.1))
-          (λ F u l i p. collects_none t m c' fs)
-      go (Some n) k h =
-          let some : body E y ≡ Some (tree_at t.types n) = sym (b.right y) ∙ ap (tree_of_body t.types) k in
-          let r : Piece = record { of_pattern = false; node = n; from = 0; is_turns = false; marks = q.marks } in
-          let ir : IsPiece t m r = record { piece = record { there = b.within y n k; part = tt }; marked = iq.marked } in
-          let a = adds_link t m c c' (record { item = r; behind = behind }) ir h.link in
-          step_with m c' xs ys fs fs (Name y) e a
-          (λ F u l i p.
-          subst (λ s. PutsTasks t m c' xs ys (body_steps (words_at t m q.marks) s (pieces_at t m F) (option_map (pieces_at t m) u))) (sym some)
-          (puts_one t m c' xs ys (record { cell = h.number; turn = o }) _ h.pushed (put_stands c' a.cells r h.number h.within h.list F u l i)))
-          (λ F u l i p. collects_none t m c' fs)
+  pub name_arm : (c' : List (Link Piece)) (xs ys : List Task) (fs : List Found) (y : List ℕ) (n : Option ℕ) → tree_of_body t.types n ≡ body E y → ((i : ℕ) → n ≡ Some i → i < length t.types) → piece_part t q ≡ Name y →
+      PushesBody n c c' xs ys q.marks behind o → IsStep t E m m c c' xs ys fs fs q behind o
+  name_arm c' xs ys fs y None right within e h =
+      step_with m c' xs ys fs fs (Name y) e (subst (Adds t m m c) (sym h.0) (adds_none t m c))
+      (λ F u l i p. subst (λ r. PutsTasks t m c' xs ys (body_steps (words_at t m q.marks) r (pieces_at t m F) (option_map (pieces_at t m) u))) right (puts_none t m c' xs ys h.1))
+      (λ F u l i p. collects_none t m c' fs)
+  name_arm c' xs ys fs y (Some n) right within e h =
+      let r : Piece = record { of_pattern = false; node = n; from = 0; is_turns = false; marks = q.marks } in
+      let ir : IsPiece t m r = record { piece = record { there = within n refl; part = tt }; marked = iq.marked } in
+      let a = adds_link t m c c' (record { item = r; behind = behind }) ir h.link in
+      step_with m c' xs ys fs fs (Name y) e a
+      (λ F u l i p.
+      subst (λ s. PutsTasks t m c' xs ys (body_steps (words_at t m q.marks) s (pieces_at t m F) (option_map (pieces_at t m) u))) right
+      (puts_one t m c' xs ys (record { cell = h.number; turn = o }) _ h.pushed (put_stands c' a.cells r h.number h.within h.list F u l i)))
+      (λ F u l i p. collects_none t m c' fs)
 
   -- two pieces before what stands after
   two_stand : (d d' : List (Link Piece)) → KeepsLinks c d' → (r s : Piece) (n k : ℕ) → k ≤ length d' → list_at d n ≡ s ∷ list_at c behind → list_at d' k ≡ r ∷ list_at d n → (F : List Piece) (u : Option (List Piece)) →

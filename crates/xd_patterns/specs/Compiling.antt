@@ -10,9 +10,9 @@ use Rattle.xd_auto.specs.Automaton.{Automaton, StateMoves, IsState, moves_at, no
 use Rattle.xd_pattern_runs.specs.Alike.{Alike}
 use Rattle.xd_pattern_runs.specs.Runs as Runs
 use Rattle.xd_pattern_runs.specs.Runs.{Continuation, Choice, choices, has_stop, texts_of, elements_of}
-use Rattle.xd_pattern_runs.specs.Mirrors.{Ahead}
+use Rattle.xd_pattern_runs.specs.Mirrors.{Ahead, SameText, SameElement}
 use Rattle.xd_patterns.specs.Tasks.{Tables, words_at, continuation, ArePieces, choice_at, Adds}
-use Rattle.xd_patterns.specs.Marked.{Marking}
+use Rattle.xd_patterns.specs.Marked.{Marking, marked_text, marked_label}
 use Rattle.xd_continuations.specs.declared.links.Link.{Link}
 use Rattle.xd_patterns.specs.declared.chains.Piece.{Piece}
 use Rattle.xd_patterns.specs.declared.expand.Found.{Found}
@@ -74,18 +74,17 @@ pub record AddsElement (marks number : ℕ) (class : LabelClass) (inside : ℕ) 
   pub others : texts' ≡ texts
   pub bounded : (k : ℕ) → number ≤ k → inside ≤ k → AllByRecursion (λ n. n ≤ k) old → AllByRecursion (λ n. n ≤ k) new
 
--- the moves on texts are those that were found, each with its marks and to a state of its rest
+-- these are the moves that were found, each with its marks
+abbrev pub AreMoves : {V W N : Type 0} → Tables → List (Link ℕ) → (List (List ℕ) → V → W) → (W → N → Type 0) → List ℕ → List V → List N → Type 0
+AreMoves t m marked Same [] [] [] = Unit {0}
+AreMoves t m marked Same (i ∷ ids) (v ∷ vs) (n ∷ ns) = (i ≤ length m) × Same (marked (words_at t m i) v) n × AreMoves t m marked Same ids vs ns
+AreMoves t m marked Same _ _ _ = ⊥
+
 abbrev pub TextsAre : Tables → List (Link ℕ) → Ahead State → List ℕ → List TextMove → List (Runs.TextMove Continuation) → Type 0
-TextsAre t m A [] [] [] = Unit {0}
-TextsAre t m A (i ∷ ids) (v ∷ vs) (n ∷ ns) =
-    (i ≤ length m) × (v.words ≡ n.words) × (words_at t m i ≡ n.marks) × (A v.rest ≡ Some n.rest) × TextsAre t m A ids vs ns
-TextsAre t m A _ _ _ = ⊥
+TextsAre t m A = AreMoves t m marked_text (SameText A)
 
 abbrev pub LabelsAre : Tables → List (Link ℕ) → Ahead State → List ℕ → List LabelMove → List (Runs.ElementMove Continuation) → Type 0
-LabelsAre t m A [] [] [] = Unit {0}
-LabelsAre t m A (i ∷ ids) (v ∷ vs) (n ∷ ns) =
-    (i ≤ length m) × (v.class ≡ n.class) × (A v.content ≡ Some n.content) × (words_at t m i ≡ n.marks) × (A v.rest ≡ Some n.rest) × LabelsAre t m A ids vs ns
-LabelsAre t m A _ _ _ = ⊥
+LabelsAre t m A = AreMoves t m marked_label (SameElement A)
 
 -- what a state has is what was found
 pub record HasMoves (t : Tables) (m : List (Link ℕ)) (A : Ahead State) (moves : StateMoves) (texts labels : List ℕ) (cs : List Choice) : Type 0 where

@@ -1,5 +1,4 @@
 pub mod Pieces
-pub mod Bodies
 pub mod Tasks
 pub mod Work
 pub mod Expanding
@@ -11,3 +10,4 @@ pub mod Compiler
 pub mod CompiledState
 pub mod Starting
 pub mod CompiledProgram
+pub mod Sources

@@ -1,9 +1,9 @@
 -- What lists of pieces, tasks, and what they find stand for.
-use Rattle.std.specs.Prelude.{◌≡◌, ℕ, ◌<◌, ◌≤◌, ◌⊎◌, Bool, true, false, cond, List, [], ◌∷◌, ◌++◌, map, reverse, length, Option, Some, None, option_map}
+use Rattle.std.specs.Prelude.{◌≡◌, ℕ, ◌≤◌, ◌⊎◌, Bool, true, false, cond, List, [], ◌∷◌, ◌++◌, map, reverse, length, Option, Some, None, option_map}
 use Rattle.std.specs.List.{AllByRecursion, AllZip}
-use Rattle.xd_syntax.specs.Tree.{Tree, Text, Words, Elem, Definitions, body}
+use Rattle.xd_syntax.specs.Tree.{Tree, Text, Words, Elem, Definitions}
 use Rattle.xd_meaning.specs.Heads.{all_texts}
-use Rattle.xd_syntax.specs.Table.{Row, tree_at}
+use Rattle.xd_syntax.specs.Table.{Row}
 pub use Rattle.xd_sound.specs.TypeNames.{meanings}
 use Rattle.xd_syntax.specs.Ways.{Among}
 use Rattle.xd_pattern_runs.specs.Alike.{Alike}
@@ -24,15 +24,6 @@ pub record Tables : Type 0 where
 
 abbrev pub rows_of : Tables → Bool → List Row
 rows_of t of_pattern = cond of_pattern t.patterns t.types
-
-abbrev pub tree_of_body : List Row → Option ℕ → Option Tree
-tree_of_body types None = None
-tree_of_body types (Some i) = Some (tree_at types i)
-
--- the node that a name stands for
-pub record AreBodies (types : List Row) (E : Definitions) (node_of : List ℕ → Option ℕ) : Type 0 where
-  pub right : (w : List ℕ) → tree_of_body types (node_of w) ≡ body E w
-  pub within : (w : List ℕ) (i : ℕ) → node_of w ≡ Some i → i < length types
 
 abbrev pub piece_part : Tables → Piece → Tree
 piece_part t q = part_of (rows_of t q.of_pattern) q

@@ -4,27 +4,40 @@ ghost use Rattle.std.specs.Prelude.{◌≡◌, ◌+◌, ◌<◌, ◌≤◌, ◌+
 ghost use Rattle.std.specs.List.{AllByRecursion};
 ghost use Rattle.xd_auto.specs.Automaton.{IsState, moves_at, no_moves, state_number};
 ghost use Rattle.xd_auto.specs.declared.auto.State.{State};
-ghost use Rattle.xd_laws.specs.Guarded.{Guarded};
 ghost use Rattle.xd_meaning.specs.Heads.{all_texts};
-ghost use Rattle.xd_patterns.specs.Bodies.{node_of};
-ghost use Rattle.xd_patterns.specs.Tasks.{AreBodies, ArePieces, IsFound, choice_at, meanings};
+ghost use Rattle.xd_patterns.specs.Sources.{IsDefined, names_in, tables};
+ghost use Rattle.xd_patterns.specs.Tasks.{ArePieces, IsFound, choice_at};
 ghost use Rattle.xd_patterns.specs.Compiling.{AddsElement, AddsMove, AddsText, FindsState, IsCompiling, Makes, Spares, rows_in};
 
-use crate::bodies::Bodies;
-use crate::chains::{Cells, Marks, Piece};
+use crate::chains::{Cells, Marks};
 use crate::expand::{Found, expand, view};
 use crate::pieces::View;
+use crate::sources::Sources;
 use indexmap::IndexSet;
 use std::alloc::Global;
 use xd_auto::{Auto, State};
 use xd_doc::{Class, NoMemory, Words};
-use xd_syntax::{Patterns, TypeDef, Types};
 
 /// For each move of a state, the number of the list of the variables that its item belongs to.
 #[derive(Drop)]
 pub(crate) struct StateMarks {
     pub texts: Vec<usize>,
     pub labels: Vec<usize>,
+}
+
+/// Lists of pieces, and the numbers of those that have states, in the order of their states.
+#[derive(Drop)]
+pub(crate) struct Lists {
+    pub alloc: Global,
+    pub cells: Cells,
+    pub states: IndexSet<usize>,
+}
+
+/// The state that moves are added to, and the number of the first state that is a list's.
+#[derive(Clone, Copy)]
+struct Target {
+    from: State,
+    base: usize,
 }
 
 /// The class of all texts.
@@ -63,20 +76,19 @@ pub(crate) fn state_of(
 fn add_text(
     one: Found,
     words: Words,
-    from: State,
-    base: usize,
+    target: Target,
     states: &mut IndexSet<usize>,
     auto: &mut Auto,
     made: &mut StateMarks,
 ) -> Result<(), NoMemory>
-    requires count { length auto.old ≡ base + length states.old.keys }
-    requires from { IsState auto.old from }
-    requires after { base ≤ state_number from }
-    ensures spares { Spares base auto.old auto.new }
-    ensures made { OnOk result (AddsText one.piece.marks one.rest words from base states.old.keys states.new.keys auto.old auto.new made.old.texts.items made.new.texts.items made.old.labels.items made.new.labels.items) }
+    requires count { length auto.old ≡ target.base + length states.old.keys }
+    requires from { IsState auto.old target.from }
+    requires after { target.base ≤ state_number target.from }
+    ensures spares { Spares target.base auto.old auto.new }
+    ensures made { OnOk result (AddsText one.piece.marks one.rest words target.from target.base states.old.keys states.new.keys auto.old auto.new made.old.texts.items made.new.texts.items made.old.labels.items made.new.labels.items) }
 {
-    let rest = state_of(one.rest, base, states, auto)?;
-    auto.add_text_move(from, words, rest)?;
+    let rest = state_of(one.rest, target.base, states, auto)?;
+    auto.add_text_move(target.from, words, rest)?;
     made.texts.push(one.piece.marks)?;
     Ok(())
 }
@@ -87,21 +99,20 @@ fn add_element(
     one: Found,
     class: Class,
     inside: usize,
-    from: State,
-    base: usize,
+    target: Target,
     states: &mut IndexSet<usize>,
     auto: &mut Auto,
     made: &mut StateMarks,
 ) -> Result<(), NoMemory>
-    requires count { length auto.old ≡ base + length states.old.keys }
-    requires from { IsState auto.old from }
-    requires after { base ≤ state_number from }
-    ensures spares { Spares base auto.old auto.new }
-    ensures made { OnOk result (AddsElement one.piece.marks one.rest class inside from base states.old.keys states.new.keys auto.old auto.new made.old.texts.items made.new.texts.items made.old.labels.items made.new.labels.items) }
+    requires count { length auto.old ≡ target.base + length states.old.keys }
+    requires from { IsState auto.old target.from }
+    requires after { target.base ≤ state_number target.from }
+    ensures spares { Spares target.base auto.old auto.new }
+    ensures made { OnOk result (AddsElement one.piece.marks one.rest class inside target.from target.base states.old.keys states.new.keys auto.old auto.new made.old.texts.items made.new.texts.items made.old.labels.items made.new.labels.items) }
 {
-    let content = state_of(inside, base, states, auto)?;
-    let rest = state_of(one.rest, base, states, auto)?;
-    auto.add_label_move(from, class, content, rest)?;
+    let content = state_of(inside, target.base, states, auto)?;
+    let rest = state_of(one.rest, target.base, states, auto)?;
+    auto.add_label_move(target.from, class, content, rest)?;
     made.labels.push(one.piece.marks)?;
     Ok(())
 }
@@ -109,40 +120,43 @@ fn add_element(
 /// What was found is added to a state.
 #[tactic(auto, using(crate::proofs::SparesLemmas::spares_none, crate::proofs::SparesLemmas::spares_then, crate::proofs::SparesLemmas::spares_changed))]
 fn add_move(
-    alloc: Global,
-    types: &Types,
-    patterns: &Patterns,
+    sources: &Sources<'_>,
     one: Found,
-    from: State,
-    base: usize,
-    cells: &mut Cells,
+    target: Target,
+    lists: &mut Lists,
     marks: &Marks,
-    states: &mut IndexSet<usize>,
     auto: &mut Auto,
     made: &mut StateMarks,
 ) -> Result<(), NoMemory>
-    requires count { length auto.old ≡ base + length states.old.keys }
-    requires from { IsState auto.old from }
-    requires after { base ≤ state_number from }
-    requires pieces { ArePieces (record { types = types.now; patterns = patterns.now }) marks.now cells.old }
-    requires numbers { AllByRecursion (λ n. n ≤ length cells.old) states.old.keys }
-    requires found { (one.is_stop ≡ true) ⊎ IsFound (record { types = types.now; patterns = patterns.now }) marks.now cells.old one }
-    ensures spares { Spares base auto.old auto.new }
-    ensures made { OnOk result (AddsMove (record { types = types.now; patterns = patterns.now }) marks.now cells.old cells.new base states.old.keys states.new.keys auto.old auto.new from
-        made.old.texts.items made.new.texts.items made.old.labels.items made.new.labels.items (choice_at (record { types = types.now; patterns = patterns.now }) marks.now cells.old one)) }
+    requires count { length auto.old ≡ target.base + length lists.old.states.keys }
+    requires from { IsState auto.old target.from }
+    requires after { target.base ≤ state_number target.from }
+    requires pieces { ArePieces (tables sources.now) marks.now lists.old.cells }
+    requires numbers { AllByRecursion (λ n. n ≤ length lists.old.cells) lists.old.states.keys }
+    requires found { (one.is_stop ≡ true) ⊎ IsFound (tables sources.now) marks.now lists.old.cells one }
+    ensures spares { Spares target.base auto.old auto.new }
+    ensures made { OnOk result (AddsMove (tables sources.now) marks.now lists.old.cells lists.new.cells target.base lists.old.states.keys lists.new.states.keys auto.old auto.new target.from
+        made.old.texts.items made.new.texts.items made.old.labels.items made.new.labels.items (choice_at (tables sources.now) marks.now lists.old.cells one)) }
 {
-    let _count = cells.len();
+    let _count = lists.cells.len();
     let _lists = marks.len();
     if one.is_stop {
-        auto.set_last(from, true);
+        auto.set_last(target.from, true);
         return Ok(());
     }
-    match view(types, patterns, one.piece) {
-        View::Text => add_text(one, every_text(alloc)?, from, base, states, auto, made)?,
-        View::Words(words) => add_text(one, words.share()?, from, base, states, auto, made)?,
+    match view(sources, one.piece) {
+        View::Text => {
+            let all = every_text(lists.alloc)?;
+            add_text(one, all, target, &mut lists.states, auto, made)?;
+        }
+        View::Words(words) => {
+            let copy = words.share()?;
+            add_text(one, copy, target, &mut lists.states, auto, made)?;
+        }
         View::Elem(class, part) => {
-            let inside = cells.put(part, 0)?;
-            add_element(one, class.share()?, inside, from, base, states, auto, made)?;
+            let inside = lists.cells.put(part, 0)?;
+            let copy = class.share()?;
+            add_element(one, copy, inside, target, &mut lists.states, auto, made)?;
         }
         _ => {}
     }
@@ -151,41 +165,33 @@ fn add_move(
 
 /// The moves of a list of pieces are added to a state without moves.
 fn add_moves(
-    alloc: Global,
-    types: &Types,
-    patterns: &Patterns,
-    defs: &[TypeDef],
-    bodies: &Bodies,
+    sources: &Sources<'_>,
     number: usize,
-    from: State,
-    base: usize,
-    cells: &mut Cells,
+    target: Target,
+    lists: &mut Lists,
     marks: &mut Marks,
-    states: &mut IndexSet<usize>,
     auto: &mut Auto,
 ) -> Result<StateMarks, NoMemory>
-    requires guarded { Guarded (meanings types.now defs.now) }
-    requires bodies { AreBodies types.now (meanings types.now defs.now) (node_of bodies.now) }
-    requires count { length auto.old ≡ base + length states.old.keys }
-    requires from { IsState auto.old from }
-    requires after { base ≤ state_number from }
-    requires fresh { moves_at auto.old from ≡ no_moves false }
-    requires pieces { ArePieces (record { types = types.now; patterns = patterns.now }) marks.old cells.old }
-    requires numbers { AllByRecursion (λ n. n ≤ length cells.old) states.old.keys }
-    requires number { number ≤ length cells.old }
-    ensures spares { Spares base auto.old auto.new }
-    ensures made { IfOk result (λ made. Makes (meanings types.now defs.now) (record { types = types.now; patterns = patterns.now }) marks.old marks.new cells.old cells.new base number states.old.keys states.new.keys auto.old auto.new from
+    requires sound { IsDefined sources.now }
+    requires count { length auto.old ≡ target.base + length lists.old.states.keys }
+    requires from { IsState auto.old target.from }
+    requires after { target.base ≤ state_number target.from }
+    requires fresh { moves_at auto.old target.from ≡ no_moves false }
+    requires pieces { ArePieces (tables sources.now) marks.old lists.old.cells }
+    requires numbers { AllByRecursion (λ n. n ≤ length lists.old.cells) lists.old.states.keys }
+    requires number { number ≤ length lists.old.cells }
+    ensures spares { Spares target.base auto.old auto.new }
+    ensures made { IfOk result (λ made. Makes (names_in sources.now) (tables sources.now) marks.old marks.new lists.old.cells lists.new.cells target.base number lists.old.states.keys lists.new.states.keys auto.old auto.new target.from
         made.texts.items made.labels.items) }
 {
-    let found = expand(alloc, types, patterns, defs, bodies, cells, marks, number)?;
+    let alloc = lists.alloc;
+    let found = expand(alloc, sources, &mut lists.cells, marks, number)?;
     let mut made = StateMarks {
         texts: Vec::new(alloc),
         labels: Vec::new(alloc),
     };
     for one in found.as_slice() {
-        add_move(
-            alloc, types, patterns, *one, from, base, cells, marks, states, auto, &mut made,
-        )?;
+        add_move(sources, *one, target, lists, marks, auto, &mut made)?;
     }
     Ok(made)
 }
@@ -195,72 +201,57 @@ fn add_moves(
 ///
 /// In a sound program the lists that come are finitely many.
 fn compile_into(
-    alloc: Global,
-    types: &Types,
-    patterns: &Patterns,
-    defs: &[TypeDef],
-    bodies: &Bodies,
+    sources: &Sources<'_>,
     base: usize,
-    cells: &mut Cells,
+    lists: &mut Lists,
     marks: &mut Marks,
-    states: &mut IndexSet<usize>,
     auto: &mut Auto,
     table: &mut Vec<StateMarks>,
 ) -> Result<(), NoMemory>
-    requires guarded { Guarded (meanings types.now defs.now) }
-    requires bodies { AreBodies types.now (meanings types.now defs.now) (node_of bodies.now) }
-    requires count { length auto.old ≡ base + length states.old.keys }
+    requires sound { IsDefined sources.now }
+    requires count { length auto.old ≡ base + length lists.old.states.keys }
     requires fresh { (s : State) → base ≤ state_number s → moves_at auto.old s ≡ no_moves false }
-    requires pieces { ArePieces (record { types = types.now; patterns = patterns.now }) marks.old cells.old }
-    requires numbers { AllByRecursion (λ n. n ≤ length cells.old) states.old.keys }
+    requires pieces { ArePieces (tables sources.now) marks.old lists.old.cells }
+    requires numbers { AllByRecursion (λ n. n ≤ length lists.old.cells) lists.old.states.keys }
     requires none { table.old.items ≡ [] }
     ensures spares { Spares base auto.old auto.new }
-    ensures made { OnOk result (IsCompiling (meanings types.now defs.now) (record { types = types.now; patterns = patterns.now }) marks.old marks.new cells.old cells.new base states.old.keys states.new.keys auto.old auto.new
-        (length states.new.keys) (rows_in table.new.items)) }
+    ensures made { OnOk result (IsCompiling (names_in sources.now) (tables sources.now) marks.old marks.new lists.old.cells lists.new.cells base lists.old.states.keys lists.new.states.keys auto.old auto.new
+        (length lists.new.states.keys) (rows_in table.new.items)) }
 {
     for done in 0..usize::MAX {
         let _states = auto.len();
-        if done >= states.len() {
+        if done >= lists.states.len() {
             return Ok(());
         }
-        let number = states.as_slice()[done];
+        let number = lists.states.as_slice()[done];
         let from = auto.state(base + done);
-        let made = add_moves(
-            alloc, types, patterns, defs, bodies, number, from, base, cells, marks, states, auto,
-        )?;
+        let target = Target { from, base };
+        let made = add_moves(sources, number, target, lists, marks, auto)?;
         table.push(made)?;
     }
-    let _states = states.len();
+    let _states = lists.states.len();
     Ok(())
 }
 
 /// The moves of all these states, and of those that are made on the way, state by state with their
 /// marks.
 pub(crate) fn compile(
-    alloc: Global,
-    types: &Types,
-    patterns: &Patterns,
-    defs: &[TypeDef],
-    bodies: &Bodies,
+    sources: &Sources<'_>,
     base: usize,
-    cells: &mut Cells,
+    lists: &mut Lists,
     marks: &mut Marks,
-    states: &mut IndexSet<usize>,
     auto: &mut Auto,
 ) -> Result<Vec<StateMarks>, NoMemory>
-    requires guarded { Guarded (meanings types.now defs.now) }
-    requires bodies { AreBodies types.now (meanings types.now defs.now) (node_of bodies.now) }
-    requires count { length auto.old ≡ base + length states.old.keys }
+    requires sound { IsDefined sources.now }
+    requires count { length auto.old ≡ base + length lists.old.states.keys }
     requires fresh { (s : State) → base ≤ state_number s → moves_at auto.old s ≡ no_moves false }
-    requires pieces { ArePieces (record { types = types.now; patterns = patterns.now }) marks.old cells.old }
-    requires numbers { AllByRecursion (λ n. n ≤ length cells.old) states.old.keys }
+    requires pieces { ArePieces (tables sources.now) marks.old lists.old.cells }
+    requires numbers { AllByRecursion (λ n. n ≤ length lists.old.cells) lists.old.states.keys }
     ensures spares { Spares base auto.old auto.new }
-    ensures made { IfOk result (λ table. IsCompiling (meanings types.now defs.now) (record { types = types.now; patterns = patterns.now }) marks.old marks.new cells.old cells.new base states.old.keys states.new.keys auto.old auto.new
-        (length states.new.keys) (rows_in table.items)) }
+    ensures made { IfOk result (λ table. IsCompiling (names_in sources.now) (tables sources.now) marks.old marks.new lists.old.cells lists.new.cells base lists.old.states.keys lists.new.states.keys auto.old auto.new
+        (length lists.new.states.keys) (rows_in table.items)) }
 {
-    let mut table = Vec::new(alloc);
-    compile_into(
-        alloc, types, patterns, defs, bodies, base, cells, marks, states, auto, &mut table,
-    )?;
+    let mut table = Vec::new(lists.alloc);
+    compile_into(sources, base, lists, marks, auto, &mut table)?;
     Ok(table)
 }

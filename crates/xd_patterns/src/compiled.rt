@@ -4,21 +4,18 @@ ghost use Rattle.std.specs.Prelude.{◌≡◌, ◌<◌, ◌++◌, [], IfOk, OnOk
 ghost use Rattle.std.specs.List.{AllByRecursion, IsDistinct};
 ghost use Rattle.std.specs.Str.{bytes_eq};
 ghost use Rattle.xd_auto.specs.Automaton.{Extends, KeepsAccepting};
-ghost use Rattle.xd_laws.specs.Guarded.{Guarded};
 ghost use Rattle.xd_meaning.specs.KeptFaults.{AllPaired};
-ghost use Rattle.xd_pattern_runs.specs.Linear.{BindNothing};
 ghost use Rattle.xd_syntax.specs.Types.{BelongsTo};
 ghost use Rattle.xd_syntax.specs.Words.{has_word};
-ghost use Rattle.xd_patterns.specs.Bodies.{node_of};
+ghost use Rattle.xd_patterns.specs.Sources.{IsDefined, names_in};
 ghost use Rattle.xd_patterns.specs.CompiledProgram.{AreWithin, IsLinearPattern, IsPatternState, IsTypeState, each_variables, list_variables, marking_of_program, pattern_states, pattern_variables, type_states, variables_of_patterns, words_of_program};
 ghost use Rattle.xd_patterns.specs.Held.{marks_at};
 ghost use Rattle.xd_patterns.specs.Starting.{pattern_piece, type_piece};
-ghost use Rattle.xd_patterns.specs.Tasks.{AreBodies, meanings};
 ghost use Rattle.xd_patterns.specs.Variables.{put_each, words_of};
 
-use crate::bodies::Bodies;
 use crate::chains::{Marks, Piece};
 use crate::mark_table::MarkTable;
+use crate::sources::Sources;
 use crate::start::{compile_pieces, piece_of_pattern, piece_of_type};
 use crate::variables::{number_lists, variables};
 use indexmap::IndexSet;
@@ -26,7 +23,7 @@ use std::alloc::Global;
 use xd_auto::{Auto, State};
 use xd_auto_pairs::MoveKind;
 use xd_doc::{Label, NoMemory};
-use xd_syntax::{PatternId, Patterns, TypeDef, TypeId, Types};
+use xd_syntax::{PatternId, Patterns, TypeId};
 
 /// The variables of a pattern in order of first occurrence.
 #[derive(Drop)]
@@ -179,37 +176,30 @@ fn variables_of_all(
 /// The same with lists of binders, of which there are none at first.
 fn compile_marked_together(
     alloc: Global,
-    types: &Types,
-    patterns: &Patterns,
-    defs: &[TypeDef],
-    bodies: &Bodies,
+    sources: &Sources<'_>,
     type_ids: &[TypeId],
     pattern_ids: &[PatternId],
     marks: &mut Marks,
     auto: &mut Auto,
 ) -> Result<CompiledProgram, NoMemory>
-    requires guarded { Guarded (meanings types.now defs.now) }
-    requires none { BindNothing (meanings types.now defs.now) }
-    requires bodies { AreBodies types.now (meanings types.now defs.now) (node_of bodies.now) }
-    requires types { AllByRecursion (BelongsTo types.now) type_ids.now }
-    requires patterns { AllByRecursion (IsLinearPattern patterns.now) pattern_ids.now }
+    requires sound { IsDefined sources.now }
+    requires types { AllByRecursion (BelongsTo sources.now.types.now) type_ids.now }
+    requires patterns { AllByRecursion (IsLinearPattern sources.now.patterns.now) pattern_ids.now }
     requires fresh { marks.old ≡ [] }
     ensures extends { Extends auto.old auto.new }
     ensures keeps { KeepsAccepting auto.old auto.new }
-    ensures types { IfOk result (λ made. AllPaired (IsTypeState (meanings types.now defs.now) types.now auto.new (marking_of_program made)) type_ids.now (type_states made)) }
-    ensures patterns { IfOk result (λ made. AllPaired (IsPatternState (meanings types.now defs.now) patterns.now auto.new (marking_of_program made)) pattern_ids.now (pattern_states made)) }
-    ensures variables { IfOk result (λ made. pattern_variables made ≡ variables_of_patterns patterns.now pattern_ids.now) }
+    ensures types { IfOk result (λ made. AllPaired (IsTypeState (names_in sources.now) sources.now.types.now auto.new (marking_of_program made)) type_ids.now (type_states made)) }
+    ensures patterns { IfOk result (λ made. AllPaired (IsPatternState (names_in sources.now) sources.now.patterns.now auto.new (marking_of_program made)) pattern_ids.now (pattern_states made)) }
+    ensures variables { IfOk result (λ made. pattern_variables made ≡ variables_of_patterns sources.now.patterns.now pattern_ids.now) }
     ensures words { IfOk result (λ made. AllByRecursion (AreWithin (words_of_program made)) (pattern_variables made)) }
 {
-    types.see_table();
+    sources.types.see_table();
     let base = auto.len();
     let pieces = pieces_of(alloc, type_ids, pattern_ids)?;
-    let (mut starts, rows) = compile_pieces(
-        alloc, types, patterns, defs, bodies, &pieces, marks, auto,
-    )?;
+    let (mut starts, rows) = compile_pieces(alloc, sources, &pieces, marks, auto)?;
     let behind = starts.split_off(type_ids.len())?;
-    let (variables, words) = variables_of_all(alloc, patterns, pattern_ids)?;
-    let lists = number_lists(alloc, patterns, marks, &words)?;
+    let (variables, words) = variables_of_all(alloc, sources.patterns, pattern_ids)?;
+    let lists = number_lists(alloc, sources.patterns, marks, &words)?;
     let moves = MarkTable {
         words,
         base,
@@ -227,36 +217,21 @@ fn compile_marked_together(
 /// Adds the states of types and of linear patterns, together.
 pub(crate) fn compile_together(
     alloc: Global,
-    types: &Types,
-    patterns: &Patterns,
-    defs: &[TypeDef],
-    bodies: &Bodies,
+    sources: &Sources<'_>,
     type_ids: &[TypeId],
     pattern_ids: &[PatternId],
     auto: &mut Auto,
 ) -> Result<CompiledProgram, NoMemory>
-    requires guarded { Guarded (meanings types.now defs.now) }
-    requires none { BindNothing (meanings types.now defs.now) }
-    requires bodies { AreBodies types.now (meanings types.now defs.now) (node_of bodies.now) }
-    requires types { AllByRecursion (BelongsTo types.now) type_ids.now }
-    requires patterns { AllByRecursion (IsLinearPattern patterns.now) pattern_ids.now }
+    requires sound { IsDefined sources.now }
+    requires types { AllByRecursion (BelongsTo sources.now.types.now) type_ids.now }
+    requires patterns { AllByRecursion (IsLinearPattern sources.now.patterns.now) pattern_ids.now }
     ensures extends { Extends auto.old auto.new }
     ensures keeps { KeepsAccepting auto.old auto.new }
-    ensures types { IfOk result (λ made. AllPaired (IsTypeState (meanings types.now defs.now) types.now auto.new (marking_of_program made)) type_ids.now (type_states made)) }
-    ensures patterns { IfOk result (λ made. AllPaired (IsPatternState (meanings types.now defs.now) patterns.now auto.new (marking_of_program made)) pattern_ids.now (pattern_states made)) }
-    ensures variables { IfOk result (λ made. pattern_variables made ≡ variables_of_patterns patterns.now pattern_ids.now) }
+    ensures types { IfOk result (λ made. AllPaired (IsTypeState (names_in sources.now) sources.now.types.now auto.new (marking_of_program made)) type_ids.now (type_states made)) }
+    ensures patterns { IfOk result (λ made. AllPaired (IsPatternState (names_in sources.now) sources.now.patterns.now auto.new (marking_of_program made)) pattern_ids.now (pattern_states made)) }
+    ensures variables { IfOk result (λ made. pattern_variables made ≡ variables_of_patterns sources.now.patterns.now pattern_ids.now) }
     ensures words { IfOk result (λ made. AllByRecursion (AreWithin (words_of_program made)) (pattern_variables made)) }
 {
     let mut marks = Marks::new(alloc);
-    compile_marked_together(
-        alloc,
-        types,
-        patterns,
-        defs,
-        bodies,
-        type_ids,
-        pattern_ids,
-        &mut marks,
-        auto,
-    )
+    compile_marked_together(alloc, sources, type_ids, pattern_ids, &mut marks, auto)
 }

@@ -1,6 +1,6 @@
 //! What compiles the patterns of a program.
 
-ghost use Rattle.std.specs.Prelude.{◌≡◌, true, ◌↔◌, IfOk};
+ghost use Rattle.std.specs.Prelude.{◌≡◌, false, true, ◌↔◌, IfOk};
 ghost use Rattle.std.specs.List.{AllByRecursion};
 ghost use Rattle.xd_auto.specs.Automaton.{accepts, Extends, IsState, KeepsAccepting};
 ghost use Rattle.xd_doc.specs.Document.{Document};
@@ -12,27 +12,31 @@ ghost use Rattle.xd_meaning.specs.KeptFaults.{AllPaired};
 ghost use Rattle.xd_syntax.specs.Kept.{AddsTypes, program_tree};
 ghost use Rattle.xd_syntax.specs.Patterns.{IsPattern, pattern_tree};
 ghost use Rattle.xd_syntax.specs.Program.{names_of};
+ghost use Rattle.xd_syntax.specs.ProperTables.{IsTable};
+ghost use Rattle.xd_syntax.specs.RecursionFaults.{IsSound};
 ghost use Rattle.xd_syntax.specs.ShallowTables.{IsShallow};
 ghost use Rattle.xd_patterns.specs.CompiledProgram.{AcceptsType, AreWithin, IsLinearPattern, IsPatternState, marking_of_program, pattern_states, pattern_variables, type_states, variables_of_patterns, words_of_program};
 ghost use Rattle.xd_patterns.specs.Compiler.{Serves, ServesStays};
 ghost use Rattle.xd_patterns.specs.Held.{marking_of, variables_in};
 ghost use Rattle.xd_patterns.specs.Marked.{IsCompiled};
+ghost use Rattle.xd_patterns.specs.Sources.{IsDefined, names_in};
 
-use crate::bodies::Bodies;
+use crate::chains::Marks;
 use crate::compiled::{CompiledProgram, compile_together};
-use crate::marked::{Marked, compile_pattern};
+use crate::marked::{Marked, compile_marked};
 use crate::plain::compile_plain;
+use crate::sources::Sources;
 use std::alloc::Global;
 use xd_auto::{Auto, State};
-use xd_continuations::meaning_of_any;
+use xd_continuations::{TypeBodies, meaning_of_any};
 use xd_doc::NoMemory;
-use xd_sound::SoundProgram;
+use xd_sound::{SoundProgram, TypeNames};
 use xd_syntax::{PatternId, TypeId};
 
 /// Compiles the patterns of one program: it knows what the names of types stand for.
 #[derive(Drop)]
 pub struct PatternCompiler {
-    bodies: Bodies,
+    bodies: TypeBodies,
 }
 
 impl PatternCompiler {
@@ -45,9 +49,33 @@ impl PatternCompiler {
         ensures shallow { IsShallow sound.old.types → IsShallow sound.new.types }
     {
         let any = meaning_of_any(alloc, sound)?;
-        let program = sound.program();
-        let bodies = Bodies::new(alloc, program.type_defs(), any.at())?;
+        let names = TypeNames::new(alloc, sound.program().type_defs())?;
+        let bodies = TypeBodies {
+            names,
+            any: any.at(),
+        };
         Ok(Self { bodies })
+    }
+
+    /// The program, with what its names stand for.
+    fn sources_of<'a>(&'a self, sound: &'a SoundProgram) -> Sources<'a>
+        requires { Serves sound.now self.now }
+        ensures sound { IsSound (program_tree sound.now) }
+        ensures table { IsTable false sound.now.types }
+        ensures defined { IsDefined result }
+        ensures names { names_in result ≡ names_of (program_tree sound.now) }
+        ensures types { result.types.now ≡ sound.now.types }
+        ensures patterns { result.patterns.now ≡ sound.now.patterns }
+    {
+        let program = sound.program();
+        let types = program.types();
+        types.see_table();
+        Sources {
+            types,
+            patterns: program.patterns(),
+            defs: program.type_defs(),
+            bodies: &self.bodies,
+        }
     }
 
     /// Adds the states of a pattern, whose moves stand in order of preference (after Hosoya and
@@ -72,16 +100,9 @@ impl PatternCompiler {
         ensures variables { IfOk result (λ marked. variables_in marked ≡ variables_of (pattern_tree sound.now.patterns pattern)) }
         ensures compiled { IfOk result (λ marked. IsCompiled (names_of (program_tree sound.now)) (pattern_tree sound.now.patterns pattern) auto.new (marking_of marked) marked.start) }
     {
-        let program = sound.program();
-        let marked = compile_pattern(
-            alloc,
-            program.types(),
-            program.patterns(),
-            program.type_defs(),
-            &self.bodies,
-            pattern,
-            auto,
-        )?;
+        let sources = self.sources_of(sound);
+        let mut marks = Marks::new(alloc);
+        let marked = compile_marked(alloc, &sources, pattern, &mut marks, auto)?;
         Ok(marked)
     }
 
@@ -111,19 +132,8 @@ impl PatternCompiler {
         ensures variables { IfOk result (λ made. pattern_variables made ≡ variables_of_patterns sound.now.patterns patterns.now) }
         ensures words { IfOk result (λ made. AllByRecursion (AreWithin (words_of_program made)) (pattern_variables made)) }
     {
-        let program = sound.program();
-        let table = program.types();
-        table.see_table();
-        let compiled = compile_together(
-            alloc,
-            table,
-            program.patterns(),
-            program.type_defs(),
-            &self.bodies,
-            types,
-            patterns,
-            auto,
-        )?;
+        let sources = self.sources_of(sound);
+        let compiled = compile_together(alloc, &sources, types, patterns, auto)?;
         Ok(compiled)
     }
 
@@ -146,18 +156,8 @@ impl PatternCompiler {
         ensures state { IfOk result (IsState auto.new) }
         ensures accepts { IfOk result (λ state. (d : Document) → (accepts auto.new d state ≡ true) ↔ Fits (names_of (program_tree sound.now)) (tree sound.now.types id) d) }
     {
-        let program = sound.program();
-        let types = program.types();
-        types.see_table();
-        let state = compile_plain(
-            alloc,
-            types,
-            program.patterns(),
-            program.type_defs(),
-            &self.bodies,
-            id,
-            auto,
-        )?;
+        let sources = self.sources_of(sound);
+        let state = compile_plain(alloc, &sources, id, auto)?;
         Ok(state)
     }
 }

@@ -1,23 +1,21 @@
 //! What can come next, in order of preference.
 
 ghost use Rattle.std.specs.Prelude.{◌≡◌, true, IfOk, ◌<◌, ◌≤◌, ◌++◌, ◌∷◌, [], ℕ, false, length, OnOk, Option, Some, None};
-ghost use Rattle.xd_syntax.specs.Tree.{Definitions};
-ghost use Rattle.xd_patterns.specs.Bodies.{node_of};
+ghost use Rattle.xd_continuations.specs.Bodies.{AreBodies, node_of};
 ghost use Rattle.xd_continuations.specs.Chains.{list_at};
-ghost use Rattle.xd_laws.specs.Guarded.{Guarded};
 ghost use Rattle.xd_pattern_runs.specs.Steps.{Ahead};
 ghost use Rattle.xd_patterns.specs.Pieces.{IsPieceOf, Sees};
-ghost use Rattle.xd_patterns.specs.Tasks.{rows_of, AreBodies, IsPiece, PushesPart, PushesRow, PushesBody, IsBound, HasFound, IsStep, meanings, ArePieces, StandsFor};
+ghost use Rattle.xd_patterns.specs.Tasks.{rows_of, IsPiece, PushesPart, PushesRow, PushesBody, IsBound, HasFound, IsStep, ArePieces, StandsFor};
+ghost use Rattle.xd_patterns.specs.Sources.{IsDefined, names_in, tables};
 ghost use Rattle.xd_patterns.specs.Expanding.{ends_turn, Enters, IsExpanded, IsVisited, AreFound};
 
-use crate::bodies::Bodies;
 use crate::chains::{Cells, Marks, Piece};
 use crate::pieces::{View, view_node};
+use crate::sources::Sources;
 use indexmap::IndexSet;
 use std::alloc::Global;
 use xd_continuations::Link;
 use xd_doc::{Label, NoMemory};
-use xd_syntax::{Patterns, TypeDef, Types};
 
 /// A list of pieces that stands ahead; in a turn of a repetition, the list that stands after the
 /// turn.
@@ -33,6 +31,13 @@ pub(crate) struct Found {
     pub is_stop: bool,
     pub piece: Piece,
     pub rest: usize,
+}
+
+/// The tasks that wait, and what was found.
+#[derive(Drop)]
+struct Expansion {
+    tasks: Vec<Task>,
+    found: IndexSet<Found>,
 }
 
 /// One more task: a piece before the list of a task.
@@ -70,17 +75,18 @@ fn push_row(
 
 /// One more task: what a name stands for, before the list of a task.
 fn push_body(
-    bodies: &Bodies,
+    sources: &Sources<'_>,
     name: &Label,
     like: Piece,
     rest: Task,
     cells: &mut Cells,
     tasks: &mut Vec<Task>,
 ) -> Result<(), NoMemory>
-    requires { rest.cell ≤ length cells.old }
-    ensures { OnOk result (PushesBody (node_of bodies.now name.now) cells.old cells.new tasks.old.items tasks.new.items like.marks rest.cell rest.turn) }
+    requires rest { rest.cell ≤ length cells.old }
+    requires bodies { AreBodies sources.now.types.now sources.now.defs.now sources.now.bodies.now }
+    ensures { OnOk result (PushesBody (node_of sources.now.defs.now sources.now.bodies.now.any name.now) cells.old cells.new tasks.old.items tasks.new.items like.marks rest.cell rest.turn) }
 {
-    if let Some(node) = bodies.find(name) {
+    if let Some(node) = sources.bodies.find(sources.defs, name) {
         let piece = Piece {
             of_pattern: false,
             node,
@@ -115,61 +121,58 @@ fn keep(item: Found, found: &mut IndexSet<Found>) -> Result<(), NoMemory>
 
 /// One step: what the first piece of a list finds itself, and the tasks that it leaves.
 fn step_view(
-    types: &Types,
-    patterns: &Patterns,
-    bodies: &Bodies,
+    sources: &Sources<'_>,
     view: View<'_>,
     first: Link<Piece>,
     task: Task,
     cells: &mut Cells,
     marks: &mut Marks,
-    tasks: &mut Vec<Task>,
-    found: &mut IndexSet<Found>,
+    expansion: &mut Expansion,
 ) -> Result<(), NoMemory>
-    requires sees { Sees (rows_of (record { types = types.now; patterns = patterns.now }) first.item.of_pattern) first.item view }
-    requires piece { IsPiece (record { types = types.now; patterns = patterns.now }) marks.old first.item }
+    requires sees { Sees (rows_of (tables sources.now) first.item.of_pattern) first.item view }
+    requires piece { IsPiece (tables sources.now) marks.old first.item }
     requires cell { task.cell ≤ length cells.old }
     requires behind { first.behind ≤ length cells.old }
     requires list { list_at cells.old task.cell ≡ first.item ∷ list_at cells.old first.behind }
-    ensures { OnOk result ((E : Definitions) → AreBodies types.now E (node_of bodies.now) →
-        IsStep (record { types = types.now; patterns = patterns.now }) E marks.old marks.new cells.old cells.new tasks.old.items tasks.new.items found.old.keys found.new.keys first.item first.behind task.turn) }
+    requires bodies { AreBodies sources.now.types.now sources.now.defs.now sources.now.bodies.now }
+    ensures { OnOk result (IsStep (tables sources.now) (names_in sources.now) marks.old marks.new cells.old cells.new expansion.old.tasks.items expansion.new.tasks.items expansion.old.found.keys expansion.new.found.keys first.item first.behind task.turn) }
 {
-    let _nodes = types.len();
-    let _others = patterns.len();
+    let _nodes = sources.types.len();
+    let _others = sources.patterns.len();
     let rest = Task {
         cell: first.behind,
         turn: task.turn,
     };
     match view {
         View::Empty => {
-            tasks.push(rest)?;
+            expansion.tasks.push(rest)?;
             Ok(())
         }
-        View::Text => keep_item(first, found),
-        View::Words(_) => keep_item(first, found),
-        View::Elem(_, _) => keep_item(first, found),
-        View::Name(name) => push_body(bodies, name, first.item, rest, cells, tasks),
-        View::Seq(part, others) => push_row(part, others, rest, cells, tasks),
-        View::Plus(part, turns) => push_row(part, turns, rest, cells, tasks),
+        View::Text => keep_item(first, &mut expansion.found),
+        View::Words(_) => keep_item(first, &mut expansion.found),
+        View::Elem(_, _) => keep_item(first, &mut expansion.found),
+        View::Name(name) => push_body(sources, name, first.item, rest, cells, &mut expansion.tasks),
+        View::Seq(part, others) => push_row(part, others, rest, cells, &mut expansion.tasks),
+        View::Plus(part, turns) => push_row(part, turns, rest, cells, &mut expansion.tasks),
         View::Alt(part, others) => {
-            push_part(others, rest, cells, tasks)?;
-            push_part(part, rest, cells, tasks)
+            push_part(others, rest, cells, &mut expansion.tasks)?;
+            push_part(part, rest, cells, &mut expansion.tasks)
         }
         View::Star(part) => {
             let turns = Task {
                 cell: task.cell,
                 turn: Some(task.cell),
             };
-            tasks.push(rest)?;
-            push_part(part, turns, cells, tasks)
+            expansion.tasks.push(rest)?;
+            push_part(part, turns, cells, &mut expansion.tasks)
         }
         View::Opt(part) => {
-            tasks.push(rest)?;
-            push_part(part, rest, cells, tasks)
+            expansion.tasks.push(rest)?;
+            push_part(part, rest, cells, &mut expansion.tasks)
         }
         View::Val(part) => {
             let bound = bind(first.item, part, marks)?;
-            push_part(bound, rest, cells, tasks)
+            push_part(bound, rest, cells, &mut expansion.tasks)
         }
     }
 }
@@ -187,14 +190,14 @@ fn keep_item(first: Link<Piece>, found: &mut IndexSet<Found>) -> Result<(), NoMe
 }
 
 /// What a piece of either table is.
-pub(crate) fn view<'a>(types: &'a Types, patterns: &'a Patterns, piece: Piece) -> View<'a>
-    requires { IsPieceOf (rows_of (record { types = types.now; patterns = patterns.now }) piece.of_pattern) piece }
-    ensures { Sees (rows_of (record { types = types.now; patterns = patterns.now }) piece.of_pattern) piece result }
+pub(crate) fn view<'a>(sources: &Sources<'a>, piece: Piece) -> View<'a>
+    requires { IsPieceOf (rows_of (tables sources.now) piece.of_pattern) piece }
+    ensures { Sees (rows_of (tables sources.now) piece.of_pattern) piece result }
 {
     if piece.of_pattern {
-        view_node(patterns, piece)
+        view_node(sources.patterns, piece)
     } else {
-        view_node(types, piece)
+        view_node(sources.types, piece)
     }
 }
 
@@ -228,37 +231,29 @@ fn stop() -> Found
 
 /// One step of a task.
 fn step(
-    types: &Types,
-    patterns: &Patterns,
-    defs: &[TypeDef],
-    bodies: &Bodies,
+    sources: &Sources<'_>,
     task: Task,
     cells: &mut Cells,
     marks: &mut Marks,
-    tasks: &mut Vec<Task>,
-    found: &mut IndexSet<Found>,
+    expansion: &mut Expansion,
 ) -> Result<(), NoMemory>
-    requires guarded { Guarded (meanings types.now defs.now) }
-    requires bodies { AreBodies types.now (meanings types.now defs.now) (node_of bodies.now) }
-    requires pieces { ArePieces (record { types = types.now; patterns = patterns.now }) marks.old cells.old }
+    requires sound { IsDefined sources.now }
+    requires pieces { ArePieces (tables sources.now) marks.old cells.old }
     requires task { task.cell ≤ length cells.old }
-    ensures { OnOk result ((a : Ahead) → StandsFor (record { types = types.now; patterns = patterns.now }) marks.old cells.old task a →
-        IsExpanded (meanings types.now defs.now) (record { types = types.now; patterns = patterns.now }) marks.old marks.new cells.old cells.new tasks.old.items tasks.new.items found.old.keys found.new.keys a) }
+    ensures { OnOk result ((a : Ahead) → StandsFor (tables sources.now) marks.old cells.old task a →
+        IsExpanded (names_in sources.now) (tables sources.now) marks.old marks.new cells.old cells.new expansion.old.tasks.items expansion.new.tasks.items expansion.old.found.keys expansion.new.found.keys a) }
 {
     let _count = cells.len();
-    let _defs = defs;
     if is_ended(task) {
         return Ok(());
     }
     if task.cell == 0 {
-        keep(stop(), found)?;
+        keep(stop(), &mut expansion.found)?;
         return Ok(());
     }
     let first = cells.link(task.cell);
-    let seen = view(types, patterns, first.item);
-    step_view(
-        types, patterns, bodies, seen, first, task, cells, marks, tasks, found,
-    )?;
+    let seen = view(sources, first.item);
+    step_view(sources, seen, first, task, cells, marks, expansion)?;
     Ok(())
 }
 
@@ -275,63 +270,50 @@ fn is_first(task: Task, seen: &mut IndexSet<Task>) -> Result<bool, NoMemory>
 /// When a task comes again, all that it finds was found: it takes more steps than any task that it
 /// leads to, so it can't come among these.
 fn visit(
-    types: &Types,
-    patterns: &Patterns,
-    defs: &[TypeDef],
-    bodies: &Bodies,
+    sources: &Sources<'_>,
     task: Task,
     cells: &mut Cells,
     marks: &mut Marks,
-    tasks: &mut Vec<Task>,
-    found: &mut IndexSet<Found>,
+    expansion: &mut Expansion,
     seen: &mut IndexSet<Task>,
 ) -> Result<(), NoMemory>
-    requires guarded { Guarded (meanings types.now defs.now) }
-    requires bodies { AreBodies types.now (meanings types.now defs.now) (node_of bodies.now) }
-    requires pieces { ArePieces (record { types = types.now; patterns = patterns.now }) marks.old cells.old }
+    requires sound { IsDefined sources.now }
+    requires pieces { ArePieces (tables sources.now) marks.old cells.old }
     requires task { task.cell ≤ length cells.old }
-    ensures { OnOk result (IsVisited (meanings types.now defs.now) (record { types = types.now; patterns = patterns.now }) marks.old marks.new cells.old cells.new tasks.old.items tasks.new.items found.old.keys found.new.keys seen.old.keys seen.new.keys task) }
+    ensures { OnOk result (IsVisited (names_in sources.now) (tables sources.now) marks.old marks.new cells.old cells.new expansion.old.tasks.items expansion.new.tasks.items expansion.old.found.keys expansion.new.found.keys seen.old.keys seen.new.keys task) }
 {
     let is_new = is_first(task, seen)?;
     if !is_new {
         return Ok(());
     }
-    step(
-        types, patterns, defs, bodies, task, cells, marks, tasks, found,
-    )?;
+    step(sources, task, cells, marks, expansion)?;
     Ok(())
 }
 
 /// Goes through the tasks that begin with a list of pieces, one after another, until none is left.
+/// None was `seen` before.
 fn expand_all(
-    types: &Types,
-    patterns: &Patterns,
-    defs: &[TypeDef],
-    bodies: &Bodies,
+    sources: &Sources<'_>,
     number: usize,
     cells: &mut Cells,
     marks: &mut Marks,
-    tasks: &mut Vec<Task>,
-    found: &mut IndexSet<Found>,
+    expansion: &mut Expansion,
     seen: &mut IndexSet<Task>,
 ) -> Result<(), NoMemory>
-    requires guarded { Guarded (meanings types.now defs.now) }
-    requires bodies { AreBodies types.now (meanings types.now defs.now) (node_of bodies.now) }
-    requires pieces { ArePieces (record { types = types.now; patterns = patterns.now }) marks.old cells.old }
+    requires sound { IsDefined sources.now }
+    requires pieces { ArePieces (tables sources.now) marks.old cells.old }
     requires number { number ≤ length cells.old }
-    requires none_waiting { tasks.old.items ≡ [] }
-    requires none_found { found.old.keys ≡ [] }
+    requires none_waiting { expansion.old.tasks.items ≡ [] }
+    requires none_found { expansion.old.found.keys ≡ [] }
     requires none_seen { seen.old.keys ≡ [] }
-    ensures { OnOk result (AreFound (meanings types.now defs.now) (record { types = types.now; patterns = patterns.now }) marks.old marks.new cells.old cells.new number found.new.keys) }
+    ensures { OnOk result (AreFound (names_in sources.now) (tables sources.now) marks.old marks.new cells.old cells.new number expansion.new.found.keys) }
 {
-    tasks.push(Task {
+    expansion.tasks.push(Task {
         cell: number,
         turn: None,
     })?;
-    while let Some(task) = tasks.pop() {
-        visit(
-            types, patterns, defs, bodies, task, cells, marks, tasks, found, seen,
-        )?;
+    while let Some(task) = expansion.tasks.pop() {
+        visit(sources, task, cells, marks, expansion, seen)?;
     }
     Ok(())
 }
@@ -342,25 +324,21 @@ fn expand_all(
 /// alternatives, is gone through once.
 pub(crate) fn expand(
     alloc: Global,
-    types: &Types,
-    patterns: &Patterns,
-    defs: &[TypeDef],
-    bodies: &Bodies,
+    sources: &Sources<'_>,
     cells: &mut Cells,
     marks: &mut Marks,
     number: usize,
 ) -> Result<IndexSet<Found>, NoMemory>
-    requires guarded { Guarded (meanings types.now defs.now) }
-    requires bodies { AreBodies types.now (meanings types.now defs.now) (node_of bodies.now) }
-    requires pieces { ArePieces (record { types = types.now; patterns = patterns.now }) marks.old cells.old }
+    requires sound { IsDefined sources.now }
+    requires pieces { ArePieces (tables sources.now) marks.old cells.old }
     requires number { number ≤ length cells.old }
-    ensures { IfOk result (λ found. AreFound (meanings types.now defs.now) (record { types = types.now; patterns = patterns.now }) marks.old marks.new cells.old cells.new number found.keys) }
+    ensures { IfOk result (λ found. AreFound (names_in sources.now) (tables sources.now) marks.old marks.new cells.old cells.new number found.keys) }
 {
-    let mut tasks = Vec::new(alloc);
-    let mut found = IndexSet::new(alloc);
+    let mut expansion = Expansion {
+        tasks: Vec::new(alloc),
+        found: IndexSet::new(alloc),
+    };
     let mut seen = IndexSet::new(alloc);
-    expand_all(
-        types, patterns, defs, bodies, number, cells, marks, &mut tasks, &mut found, &mut seen,
-    )?;
-    Ok(found)
+    expand_all(sources, number, cells, marks, &mut expansion, &mut seen)?;
+    Ok(expansion.found)
 }

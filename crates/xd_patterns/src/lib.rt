@@ -1,7 +1,6 @@
 //! Patterns as states of an automaton whose moves stand in order of preference.
 #![tactic(auto)]
 
-mod bodies;
 mod chains;
 mod compile;
 mod compiled;
@@ -12,10 +11,10 @@ mod mark_table;
 mod marked;
 mod pieces;
 mod plain;
+mod sources;
 mod start;
 mod variables;
 
-pub use bodies::Bodies;
 pub use compiled::CompiledProgram;
 pub use compiler::{PatternCompiler, compilers_stay};
 pub use laws::compiled_states_stay;

@@ -7,20 +7,22 @@ ghost use Rattle.xd_pattern_runs.specs.Linear.{BindNothing, IsLinear};
 ghost use Rattle.xd_meaning.specs.Bindings.{variables_of};
 ghost use Rattle.xd_syntax.specs.Words.{has_word};
 ghost use Rattle.xd_syntax.specs.Patterns.{IsPattern, pattern_tree};
-ghost use Rattle.xd_patterns.specs.Bodies.{node_of};
+ghost use Rattle.xd_continuations.specs.Bodies.{AreBodies};
 ghost use Rattle.xd_patterns.specs.Held.{marking_of, marks_at, variables_in};
 ghost use Rattle.xd_patterns.specs.Marked.{IsCompiled};
-ghost use Rattle.xd_patterns.specs.Tasks.{AreBodies, meanings};
+ghost use Rattle.xd_patterns.specs.Sources.{IsDefined, names_in};
+ghost use Rattle.xd_patterns.specs.Tasks.{meanings};
 ghost use Rattle.xd_patterns.specs.Variables.{words_of};
 
-use crate::bodies::Bodies;
 use crate::chains::Marks;
 use crate::mark_table::MarkTable;
+use crate::sources::Sources;
 use crate::start::{compile_pieces, piece_of_pattern};
 use crate::variables::{number_lists, variables};
 use std::alloc::Global;
 use xd_auto::{Auto, State};
 use xd_auto_pairs::MoveKind;
+use xd_continuations::TypeBodies;
 use xd_doc::{Label, NoMemory};
 use xd_syntax::{PatternId, Patterns, TypeDef, Types};
 
@@ -68,42 +70,28 @@ impl Marked {
 }
 
 /// The same with lists of binders, of which there are none at first.
-fn compile_marked(
+pub(crate) fn compile_marked(
     alloc: Global,
-    types: &Types,
-    patterns: &Patterns,
-    defs: &[TypeDef],
-    bodies: &Bodies,
+    sources: &Sources<'_>,
     pattern: PatternId,
     marks: &mut Marks,
     auto: &mut Auto,
 ) -> Result<Marked, NoMemory>
-    requires guarded { Guarded (meanings types.now defs.now) }
-    requires none { BindNothing (meanings types.now defs.now) }
-    requires bodies { AreBodies types.now (meanings types.now defs.now) (node_of bodies.now) }
-    requires pattern { IsPattern patterns.now pattern }
-    requires linear { IsLinear (pattern_tree patterns.now pattern) }
+    requires sound { IsDefined sources.now }
+    requires pattern { IsPattern sources.now.patterns.now pattern }
+    requires linear { IsLinear (pattern_tree sources.now.patterns.now pattern) }
     requires fresh { marks.old ≡ [] }
     ensures extends { Extends auto.old auto.new }
     ensures keeps { KeepsAccepting auto.old auto.new }
     ensures start { IfOk result (λ marked. IsState auto.new marked.start) }
-    ensures variables { IfOk result (λ marked. variables_in marked ≡ variables_of (pattern_tree patterns.now pattern)) }
-    ensures compiled { IfOk result (λ marked. IsCompiled (meanings types.now defs.now) (pattern_tree patterns.now pattern) auto.new (marking_of marked) marked.start) }
+    ensures variables { IfOk result (λ marked. variables_in marked ≡ variables_of (pattern_tree sources.now.patterns.now pattern)) }
+    ensures compiled { IfOk result (λ marked. IsCompiled (names_in sources.now) (pattern_tree sources.now.patterns.now pattern) auto.new (marking_of marked) marked.start) }
 {
     let base = auto.len();
     let piece = piece_of_pattern(pattern);
-    let (starts, rows) = compile_pieces(
-        alloc,
-        types,
-        patterns,
-        defs,
-        bodies,
-        &[piece],
-        marks,
-        auto,
-    )?;
-    let words = variables(alloc, patterns, pattern)?;
-    let lists = number_lists(alloc, patterns, marks, &words)?;
+    let (starts, rows) = compile_pieces(alloc, sources, &[piece], marks, auto)?;
+    let words = variables(alloc, sources.patterns, pattern)?;
+    let lists = number_lists(alloc, sources.patterns, marks, &words)?;
     let moves = MarkTable {
         words,
         base,
@@ -127,13 +115,13 @@ pub fn compile_pattern(
     types: &Types,
     patterns: &Patterns,
     defs: &[TypeDef],
-    bodies: &Bodies,
+    bodies: &TypeBodies,
     pattern: PatternId,
     auto: &mut Auto,
 ) -> Result<Marked, NoMemory>
     requires guarded { Guarded (meanings types.now defs.now) }
     requires none { BindNothing (meanings types.now defs.now) }
-    requires bodies { AreBodies types.now (meanings types.now defs.now) (node_of bodies.now) }
+    requires bodies { AreBodies types.now defs.now bodies.now }
     requires pattern { IsPattern patterns.now pattern }
     requires linear { IsLinear (pattern_tree patterns.now pattern) }
     ensures extends { Extends auto.old auto.new }
@@ -142,8 +130,12 @@ pub fn compile_pattern(
     ensures variables { IfOk result (λ marked. variables_in marked ≡ variables_of (pattern_tree patterns.now pattern)) }
     ensures compiled { IfOk result (λ marked. IsCompiled (meanings types.now defs.now) (pattern_tree patterns.now pattern) auto.new (marking_of marked) marked.start) }
 {
+    let sources = Sources {
+        types,
+        patterns,
+        defs,
+        bodies,
+    };
     let mut marks = Marks::new(alloc);
-    compile_marked(
-        alloc, types, patterns, defs, bodies, pattern, &mut marks, auto,
-    )
+    compile_marked(alloc, &sources, pattern, &mut marks, auto)
 }

@@ -3,22 +3,20 @@
 ghost use Rattle.std.specs.Prelude.{◌≡◌, [], length, IfOk, OnOk};
 ghost use Rattle.std.specs.List.{AllByRecursion};
 ghost use Rattle.xd_auto.specs.Automaton.{Extends, KeepsAccepting};
-ghost use Rattle.xd_laws.specs.Guarded.{Guarded};
 ghost use Rattle.xd_meaning.specs.KeptFaults.{AllPaired};
-ghost use Rattle.xd_pattern_runs.specs.Linear.{BindNothing};
-ghost use Rattle.xd_patterns.specs.Bodies.{node_of};
+ghost use Rattle.xd_patterns.specs.Sources.{IsDefined, names_in, tables};
 ghost use Rattle.xd_patterns.specs.Compiling.{Spares, marking, rows_in};
 ghost use Rattle.xd_patterns.specs.Starting.{AddsStarts, CanStart, IsPieceState, pattern_piece, type_piece};
-ghost use Rattle.xd_patterns.specs.Tasks.{AreBinders, AreBodies, meanings};
+ghost use Rattle.xd_patterns.specs.Tasks.{AreBinders};
 
-use crate::bodies::Bodies;
 use crate::chains::{Cells, Marks, Piece};
-use crate::compile::{StateMarks, compile, state_of};
+use crate::compile::{Lists, StateMarks, compile, state_of};
+use crate::sources::Sources;
 use indexmap::IndexSet;
 use std::alloc::Global;
 use xd_auto::{Auto, State};
 use xd_doc::NoMemory;
-use xd_syntax::{PatternId, Patterns, TypeDef, TypeId, Types};
+use xd_syntax::{PatternId, TypeId};
 
 /// A type outside of all binders.
 pub(crate) fn piece_of_type(id: TypeId) -> Piece
@@ -74,35 +72,33 @@ fn add_starts(
 
 /// The same with these lists of pieces and lists that have states, none of them at first.
 fn compile_from(
-    alloc: Global,
-    types: &Types,
-    patterns: &Patterns,
-    defs: &[TypeDef],
-    bodies: &Bodies,
+    sources: &Sources<'_>,
     pieces: &[Piece],
-    cells: &mut Cells,
+    lists: &mut Lists,
     marks: &mut Marks,
-    states: &mut IndexSet<usize>,
     auto: &mut Auto,
 ) -> Result<(Vec<State>, Vec<StateMarks>), NoMemory>
-    requires guarded { Guarded (meanings types.now defs.now) }
-    requires none { BindNothing (meanings types.now defs.now) }
-    requires bodies { AreBodies types.now (meanings types.now defs.now) (node_of bodies.now) }
+    requires sound { IsDefined sources.now }
     requires fresh { marks.old ≡ [] }
-    requires cells { cells.old ≡ [] }
-    requires states { states.old.keys ≡ [] }
-    requires pieces { AllByRecursion (CanStart (record { types = types.now; patterns = patterns.now })) pieces.now }
+    requires cells { lists.old.cells ≡ [] }
+    requires states { lists.old.states.keys ≡ [] }
+    requires pieces { AllByRecursion (CanStart (tables sources.now)) pieces.now }
     ensures extends { Extends auto.old auto.new }
     ensures keeps { KeepsAccepting auto.old auto.new }
-    ensures binders { OnOk result (AreBinders (record { types = types.now; patterns = patterns.now }) marks.new) }
-    ensures states { IfOk result (λ made. AllPaired (IsPieceState (meanings types.now defs.now) (record { types = types.now; patterns = patterns.now }) auto.new
-        (marking (record { types = types.now; patterns = patterns.now }) marks.new (length auto.old) (rows_in made.1.items))) pieces.now made.0.items) }
+    ensures binders { OnOk result (AreBinders (tables sources.now) marks.new) }
+    ensures states { IfOk result (λ made. AllPaired (IsPieceState (names_in sources.now) (tables sources.now) auto.new
+        (marking (tables sources.now) marks.new (length auto.old) (rows_in made.1.items))) pieces.now made.0.items) }
 {
     let base = auto.len();
-    let starts = add_starts(alloc, pieces, base, cells, states, auto)?;
-    let table = compile(
-        alloc, types, patterns, defs, bodies, base, cells, marks, states, auto,
+    let starts = add_starts(
+        lists.alloc,
+        pieces,
+        base,
+        &mut lists.cells,
+        &mut lists.states,
+        auto,
     )?;
+    let table = compile(sources, base, lists, marks, auto)?;
     Ok((starts, table))
 }
 
@@ -113,37 +109,24 @@ fn compile_from(
 /// What stands ahead has one state, however many of the pieces lead to it.
 pub(crate) fn compile_pieces(
     alloc: Global,
-    types: &Types,
-    patterns: &Patterns,
-    defs: &[TypeDef],
-    bodies: &Bodies,
+    sources: &Sources<'_>,
     pieces: &[Piece],
     marks: &mut Marks,
     auto: &mut Auto,
 ) -> Result<(Vec<State>, Vec<StateMarks>), NoMemory>
-    requires guarded { Guarded (meanings types.now defs.now) }
-    requires none { BindNothing (meanings types.now defs.now) }
-    requires bodies { AreBodies types.now (meanings types.now defs.now) (node_of bodies.now) }
+    requires sound { IsDefined sources.now }
     requires fresh { marks.old ≡ [] }
-    requires pieces { AllByRecursion (CanStart (record { types = types.now; patterns = patterns.now })) pieces.now }
+    requires pieces { AllByRecursion (CanStart (tables sources.now)) pieces.now }
     ensures extends { Extends auto.old auto.new }
     ensures keeps { KeepsAccepting auto.old auto.new }
-    ensures binders { OnOk result (AreBinders (record { types = types.now; patterns = patterns.now }) marks.new) }
-    ensures states { IfOk result (λ made. AllPaired (IsPieceState (meanings types.now defs.now) (record { types = types.now; patterns = patterns.now }) auto.new
-        (marking (record { types = types.now; patterns = patterns.now }) marks.new (length auto.old) (rows_in made.1.items))) pieces.now made.0.items) }
+    ensures binders { OnOk result (AreBinders (tables sources.now) marks.new) }
+    ensures states { IfOk result (λ made. AllPaired (IsPieceState (names_in sources.now) (tables sources.now) auto.new
+        (marking (tables sources.now) marks.new (length auto.old) (rows_in made.1.items))) pieces.now made.0.items) }
 {
-    let mut cells = Cells::new(alloc);
-    let mut states = IndexSet::new(alloc);
-    compile_from(
+    let mut lists = Lists {
         alloc,
-        types,
-        patterns,
-        defs,
-        bodies,
-        pieces,
-        &mut cells,
-        marks,
-        &mut states,
-        auto,
-    )
+        cells: Cells::new(alloc),
+        states: IndexSet::new(alloc),
+    };
+    compile_from(sources, pieces, &mut lists, marks, auto)
 }

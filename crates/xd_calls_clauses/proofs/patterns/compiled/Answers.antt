@@ -1,18 +1,18 @@
-use Rattle.std.proofs.Common.{◌≡◌, ℕ, List, ap, sym, subst, ◌∙◌}
-use Rattle.xd_syntax.specs.Kept.{program_tree}
+use Rattle.std.proofs.Common.{◌<◌, ap, length, sym, subst, ◌∙◌}
+use Rattle.xd_syntax.specs.Kept.{ProgramTable, program_tree}
 use Rattle.xd_syntax.specs.Proper.{IsProperProgram}
 use Rattle.xd_syntax.specs.RecursionFaults.{IsSound}
-use Rattle.xd_syntax.specs.declared.types.TypeDef.{TypeDef}
+use Rattle.xd_syntax.specs.Table.{tree_at}
+use Rattle.xd_syntax.proofs.KeptLaws.{along}
 use Rattle.xd_laws.specs.Guarded.{Guarded}
 use Rattle.xd_laws.proofs.SoundGuarded.{guarded}
 use Rattle.xd_pattern_runs.specs.Linear.{BindNothing}
 use Rattle.xd_pattern_runs.proofs.NamesBindNothing.{names_bind_nothing}
-use Rattle.xd_syntax.proofs.KeptLaws.{along}
-use Rattle.xd_patterns.specs.Bodies.{IsNodeOf, node_of}
-use Rattle.xd_patterns.specs.Compiler.{Serves}
-use Rattle.xd_patterns.specs.Tasks.{AreBodies, meanings}
-use Rattle.xd_patterns.specs.declared.compiler.PatternCompiler.{PatternCompiler}
-use Rattle.xd_patterns.proofs.ServesLemmas.{serves_bodies, serves_new}
+use Rattle.xd_sound.specs.TypeNames.{AreNumbered, meanings}
+use Rattle.xd_continuations.specs.Bodies.{AreBodies}
+use Rattle.xd_continuations.specs.declared.bodies.TypeBodies.{TypeBodies}
+use Rattle.xd_continuations.proofs.Bodied.{are_bodies}
+use Rattle.xd_continuations.proofs.GrownTables.{bodies_stand}
 use Rattle.xd_calls_clauses.proofs.patterns.compiled.Goals as goal
 
 pub compile_pattern-requires-clause-guarded : goal.compile_pattern-requires-clause-guarded
@@ -31,13 +31,10 @@ pub compile_pattern-requires-clause-bodies : goal.compile_pattern-requires-claus
 compile_pattern-requires-clause-bodies c =
     let p = c.program-program.result.now in
     let q = c.meaning_of_any.new.sound in
-    let b = c.in_ok-bodies.bodies in
-    let s : PatternCompiler = record { bodies = b } in
+    let e = c.program-program.ensures.program in
     let found = c.in_ok-any.ensures.found in
-    let defs : c.type_defs.result.now ≡ q.type_defs = c.type_defs.ensures.type_defs ∙ ap (λ r. r.type_defs) c.program-program.ensures.program in
-    let serves : Serves q s =
-    serves_new q b c.in_ok-any.any.at found.belongs found.same
-    (subst (λ i. (w : List ℕ) → IsNodeOf q.type_defs i w (node_of b w)) c.at.ensures
-    (subst (λ (ds : List TypeDef). (w : List ℕ) → IsNodeOf ds c.at.result w (node_of b w)) defs c.in_ok-bodies.ensures)) in
-    along p c.types.result.now c.type_defs-2.result.now (λ t d. AreBodies t (meanings t d) (node_of b)) c.types.ensures.types c.type_defs-2.ensures.type_defs
-    (serves_bodies p s c.types.ensures.stands (subst (λ r. Serves r s) (sym c.program-program.ensures.program) serves))
+    let b : TypeBodies = record { names = c.in_ok-names.names; any = c.at.result } in
+    along p c.types.result.now c.type_defs-2.result.now (λ t d. AreBodies t d b) c.types.ensures.types c.type_defs-2.ensures.type_defs
+    (are_bodies p.types p.type_defs b (bodies_stand p c.types.ensures.stands) (subst (AreNumbered b.names) c.type_defs.ensures.type_defs c.in_ok-names.ensures)
+    (subst (λ (r : ProgramTable). b.any < length r.types) (sym e) (subst (λ i. i < length q.types) (sym c.at.ensures) found.belongs))
+    (ap (λ (r : ProgramTable). tree_at r.types b.any) e ∙ ap (tree_at q.types) c.at.ensures ∙ found.same))

@@ -2,8 +2,7 @@ use Rattle.xd_patterns.proofs.compile.compile.Goals as goal
 
 pub compile_into-requires : goal.compile_into-requires
 compile_into-requires c = record {
-  guarded = c.requires.guarded;
-  bodies = c.requires.bodies;
+  sound = c.requires.sound;
   count = c.requires.count;
   fresh = c.requires.fresh;
   pieces = c.requires.pieces;

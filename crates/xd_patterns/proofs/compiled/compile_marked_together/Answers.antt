@@ -5,28 +5,25 @@ use Rattle.xd_meaning.specs.KeptFaults.{AllPaired}
 use Rattle.xd_patterns.specs.declared.chains.Piece.{Piece}
 use Rattle.xd_patterns.specs.declared.mark_table.MarkTable.{MarkTable}
 use Rattle.xd_patterns.specs.CompiledProgram.{AreWithin, IsPatternState, IsTypeState}
-use Rattle.xd_patterns.specs.Compiling.{labels_from, marking, rows_in, texts_from}
+use Rattle.xd_patterns.specs.Compiling.{marking, rows_in}
 use Rattle.xd_patterns.specs.Held.{marking_in}
-use Rattle.xd_patterns.specs.Marked.{Marking}
 use Rattle.xd_patterns.specs.Starting.{CanStart, IsPieceState, pattern_piece, type_piece}
-use Rattle.xd_patterns.specs.Tasks.{Tables, meanings}
-use Rattle.xd_patterns.specs.Variables.{numbers_in}
-use Rattle.xd_patterns.proofs.MarksLaw.{Keeps}
+use Rattle.xd_patterns.proofs.MarksLaw.{table_keeps}
 use Rattle.xd_patterns.proofs.Pairing.{paired_room}
 use Rattle.xd_patterns.proofs.Together.{all_start, pattern_states_of, type_states_of}
-use Rattle.xd_patterns.proofs.VariableLemmas.{marks_kept}
+use Rattle.xd_patterns.specs.Sources.{names_in, tables}
 use Rattle.xd_patterns.proofs.compiled.compile_marked_together.Goals as goal
 
 pub compile_pieces-requires-clause-pieces : goal.compile_pieces-requires-clause-pieces
 compile_pieces-requires-clause-pieces c =
-    let t : Tables = record { types = c.args.types.now; patterns = c.args.patterns.now } in
+    let t = tables c.args.sources.now in
     subst (AllByRecursion (CanStart t)) (sym (c.deref.ensures.value ∙ c.in_ok-pieces.ensures))
     (all_start t c.see_table.ensures c.args.type_ids.now c.args.pattern_ids.now c.requires.types c.requires.patterns)
 
 pub split_off-requires : goal.split_off-requires
 split_off-requires c =
-    let t : Tables = record { types = c.args.types.now; patterns = c.args.patterns.now } in
-    let E = meanings c.args.types.now c.args.defs.now in
+    let t = tables c.args.sources.now in
+    let E = names_in c.args.sources.now in
     let R : Piece → State → Type 0 = IsPieceState E t c.compile_pieces.new.auto (marking t c.compile_pieces.new.marks (length c.args.auto.now) (rows_in c.in_ok-starts.rows.items)) in
     let room = paired_room R type_piece c.args.type_ids.now (map pattern_piece c.args.pattern_ids.now) c.in_ok-starts.starts.items
     (subst (λ qs. AllPaired R qs c.in_ok-starts.starts.items) (c.deref.ensures.value ∙ c.in_ok-pieces.ensures) c.in_ok-starts.ensures.states) in
@@ -34,47 +31,31 @@ split_off-requires c =
 
 pub returns-clause-types : goal.returns-clause-types
 returns-clause-types c =
-    let t : Tables = record { types = c.args.types.now; patterns = c.args.patterns.now } in
-    let E = meanings c.args.types.now c.args.defs.now in
+    let t = tables c.args.sources.now in
+    let E = names_in c.args.sources.now in
     let a = c.compile_pieces.new.auto in
     let m = c.compile_pieces.new.marks in
-    let base = c.len-base.result in
-    let rows = rows_in c.in_ok-starts.rows.items in
-    let vs = c.in_ok-variables.words.keys in
-    let ls = numbers_in c.in_ok-lists.lists.items in
-    let moves : MarkTable = record { words = c.in_ok-variables.words; base = base; rows = c.in_ok-starts.rows; lists = c.in_ok-lists.lists } in
-    let k : Marking = marking t m base rows in
-    let kept : Keeps vs k (marking_in moves) = λ q n x. (
-      marks_kept t.patterns vs m ls c.in_ok-lists.ensures (texts_from base rows q) n x,
-      marks_kept t.patterns vs m ls c.in_ok-lists.ensures (labels_from base rows q) n x,
-    ) in
+    let moves : MarkTable = record { words = c.in_ok-variables.words; base = c.len-base.result; rows = c.in_ok-starts.rows; lists = c.in_ok-lists.lists } in
+    let k = λ (b : ℕ). marking t m b (rows_in c.in_ok-starts.rows.items) in
     let states =
-    subst (λ qs. AllPaired (IsPieceState E t a k) qs c.in_ok-starts.starts.items) (c.deref.ensures.value ∙ c.in_ok-pieces.ensures)
-    (subst (λ (b : ℕ). AllPaired (IsPieceState E t a (marking t m b rows)) c.deref.result.now c.in_ok-starts.starts.items) (sym c.len-base.ensures.value) c.in_ok-starts.ensures.states) in
+    subst (λ qs. AllPaired (IsPieceState E t a (k c.len-base.result)) qs c.in_ok-starts.starts.items) (c.deref.ensures.value ∙ c.in_ok-pieces.ensures)
+    (subst (λ (b : ℕ). AllPaired (IsPieceState E t a (k b)) c.deref.result.now c.in_ok-starts.starts.items) (sym c.len-base.ensures.value) c.in_ok-starts.ensures.states) in
     subst (AllPaired (IsTypeState E t.types a (marking_in moves)) c.args.type_ids.now) (sym c.in_ok-behind.ensures.items)
-    (type_states_of E t a k (marking_in moves) vs kept c.see_table.ensures c.args.type_ids.now (map pattern_piece c.args.pattern_ids.now) c.in_ok-starts.starts.items c.requires.types states)
+    (type_states_of E t a (k c.len-base.result) (marking_in moves) moves.words.keys (table_keeps t m moves c.in_ok-lists.ensures) c.see_table.ensures c.args.type_ids.now (map pattern_piece c.args.pattern_ids.now) c.in_ok-starts.starts.items c.requires.types states)
 
 pub returns-clause-patterns : goal.returns-clause-patterns
 returns-clause-patterns c =
-    let t : Tables = record { types = c.args.types.now; patterns = c.args.patterns.now } in
-    let E = meanings c.args.types.now c.args.defs.now in
+    let t = tables c.args.sources.now in
+    let E = names_in c.args.sources.now in
     let a = c.compile_pieces.new.auto in
     let m = c.compile_pieces.new.marks in
-    let base = c.len-base.result in
-    let rows = rows_in c.in_ok-starts.rows.items in
-    let vs = c.in_ok-variables.words.keys in
-    let ls = numbers_in c.in_ok-lists.lists.items in
-    let moves : MarkTable = record { words = c.in_ok-variables.words; base = base; rows = c.in_ok-starts.rows; lists = c.in_ok-lists.lists } in
-    let k : Marking = marking t m base rows in
-    let kept : Keeps vs k (marking_in moves) = λ q n x. (
-      marks_kept t.patterns vs m ls c.in_ok-lists.ensures (texts_from base rows q) n x,
-      marks_kept t.patterns vs m ls c.in_ok-lists.ensures (labels_from base rows q) n x,
-    ) in
+    let moves : MarkTable = record { words = c.in_ok-variables.words; base = c.len-base.result; rows = c.in_ok-starts.rows; lists = c.in_ok-lists.lists } in
+    let k = λ (b : ℕ). marking t m b (rows_in c.in_ok-starts.rows.items) in
     let states =
-    subst (λ qs. AllPaired (IsPieceState E t a k) qs c.in_ok-starts.starts.items) (c.deref.ensures.value ∙ c.in_ok-pieces.ensures)
-    (subst (λ (b : ℕ). AllPaired (IsPieceState E t a (marking t m b rows)) c.deref.result.now c.in_ok-starts.starts.items) (sym c.len-base.ensures.value) c.in_ok-starts.ensures.states) in
+    subst (λ qs. AllPaired (IsPieceState E t a (k c.len-base.result)) qs c.in_ok-starts.starts.items) (c.deref.ensures.value ∙ c.in_ok-pieces.ensures)
+    (subst (λ (b : ℕ). AllPaired (IsPieceState E t a (k b)) c.deref.result.now c.in_ok-starts.starts.items) (sym c.len-base.ensures.value) c.in_ok-starts.ensures.states) in
     subst (AllPaired (IsPatternState E t.patterns a (marking_in moves)) c.args.pattern_ids.now) (sym c.in_ok-behind.ensures.tail)
-    (pattern_states_of E t a k (marking_in moves) vs kept c.args.type_ids.now c.args.pattern_ids.now c.in_ok-starts.starts.items c.in_ok-variables.ensures.all states)
+    (pattern_states_of E t a (k c.len-base.result) (marking_in moves) moves.words.keys (table_keeps t m moves c.in_ok-lists.ensures) c.args.type_ids.now c.args.pattern_ids.now c.in_ok-starts.starts.items c.in_ok-variables.ensures.all states)
 
 pub returns-clause-variables : goal.returns-clause-variables
 returns-clause-variables c = c.in_ok-variables.ensures.each

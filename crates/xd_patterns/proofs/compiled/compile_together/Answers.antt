@@ -2,9 +2,7 @@ use Rattle.xd_patterns.proofs.compiled.compile_together.Goals as goal
 
 pub compile_marked_together-requires : goal.compile_marked_together-requires
 compile_marked_together-requires c = record {
-  guarded = c.requires.guarded;
-  none = c.requires.none;
-  bodies = c.requires.bodies;
+  sound = c.requires.sound;
   types = c.requires.types;
   patterns = c.requires.patterns;
   fresh = c.new-marks.ensures;

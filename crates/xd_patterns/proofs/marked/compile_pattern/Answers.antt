@@ -2,9 +2,7 @@ use Rattle.xd_patterns.proofs.marked.compile_pattern.Goals as goal
 
 pub compile_marked-requires : goal.compile_marked-requires
 compile_marked-requires c = record {
-  guarded = c.requires.guarded;
-  none = c.requires.none;
-  bodies = c.requires.bodies;
+  sound = record { guarded = c.requires.guarded; none = c.requires.none; bodies = c.requires.bodies };
   pattern = c.requires.pattern;
   linear = c.requires.linear;
   fresh = c.new-marks.ensures;

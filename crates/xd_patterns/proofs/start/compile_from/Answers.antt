@@ -2,9 +2,10 @@ use Rattle.std.proofs.Common.{ℕ, sym, subst}
 use Rattle.xd_meaning.specs.KeptFaults.{AllPaired}
 use Rattle.xd_patterns.specs.Compiling.{marking, rows_in}
 use Rattle.xd_patterns.specs.Starting.{IsPieceState}
-use Rattle.xd_patterns.specs.Tasks.{Tables, AreBinders, meanings}
+use Rattle.xd_patterns.specs.Tasks.{AreBinders}
 use Rattle.xd_patterns.proofs.SparesLemmas.{spares_then, extends_from, keeps_from}
 use Rattle.xd_patterns.proofs.Starting.{are_pieces, fresh_from, starts_compiled}
+use Rattle.xd_patterns.specs.Sources.{names_in, tables}
 use Rattle.xd_patterns.proofs.start.compile_from.Goals as goal
 
 pub returns-in_err-starts-clause-extends : goal.returns-in_err-starts-clause-extends
@@ -27,7 +28,7 @@ returns-clause-keeps c = keeps_from c.len-base.result c.args.auto.now c.compile.
 
 pub returns-clause-binders : goal.returns-clause-binders
 returns-clause-binders c =
-    let t : Tables = record { types = c.args.types.now; patterns = c.args.patterns.now } in
+    let t = tables c.args.sources.now in
     c.in_ok-table.ensures.made.adds.binders (subst (AreBinders t) (sym c.requires.fresh) tt)
 
 pub compile-requires-clause-count : goal.compile-requires-clause-count
@@ -35,7 +36,7 @@ compile-requires-clause-count c = c.in_ok-starts.ensures.starts.adds.count
 
 pub compile-requires-clause-pieces : goal.compile-requires-clause-pieces
 compile-requires-clause-pieces c =
-    let t : Tables = record { types = c.args.types.now; patterns = c.args.patterns.now } in
+    let t = tables c.args.sources.now in
     c.in_ok-starts.ensures.starts.pieces t c.args.marks.now (are_pieces t c.args.marks.now c.args.pieces.now c.requires.pieces)
 
 pub compile-requires-clause-numbers : goal.compile-requires-clause-numbers
@@ -46,10 +47,10 @@ compile-requires-clause-fresh c = fresh_from c.len-base.result c.args.auto.now c
 
 pub returns-clause-states : goal.returns-clause-states
 returns-clause-states c =
-    let t : Tables = record { types = c.args.types.now; patterns = c.args.patterns.now } in
-    let E = meanings c.args.types.now c.args.defs.now in
+    let t = tables c.args.sources.now in
+    let E = names_in c.args.sources.now in
     let rows = rows_in c.in_ok-table.table.items in
     let base = c.len-base.result in
     subst (λ (b : ℕ). AllPaired (IsPieceState E t c.compile.new.auto (marking t c.compile.new.marks b rows)) c.args.pieces.now c.in_ok-starts.starts.items) c.len-base.ensures.value
-    (starts_compiled E c.requires.guarded c.requires.none t c.args.marks.now c.compile.new.marks c.add_starts.new.cells c.compile.new.cells base c.add_starts.new.states.keys c.compile.new.states.keys c.args.auto.now c.add_starts.new.auto
+    (starts_compiled E c.requires.sound.guarded c.requires.sound.none t c.args.marks.now c.compile.new.marks c.add_starts.new.cells c.compile.new.lists.cells base c.add_starts.new.states.keys c.compile.new.lists.states.keys c.args.auto.now c.add_starts.new.auto
     c.compile.new.auto rows c.args.pieces.now c.in_ok-starts.starts.items c.requires.pieces c.in_ok-starts.ensures.starts c.in_ok-table.ensures.made)
