@@ -7,6 +7,7 @@ use Rattle.xd_auto.specs.declared.auto.State.{State}
 use Rattle.xd_auto.specs.Automaton.{Automaton, accepts}
 use Rattle.xd_meaning.specs.KeptFaults.{AllPaired}
 use Rattle.xd_meaning.specs.Bindings.{variables_of}
+use Rattle.xd_sound.specs.TypeNames.{meanings}
 use Rattle.xd_laws.proofs.TheLaws.{patterns_are_types}
 use Rattle.xd_syntax.specs.Words.{has_word}
 use Rattle.xd_syntax.specs.Tree.{Tree, Definitions, occurrences}
@@ -26,7 +27,7 @@ use Rattle.xd_patterns.specs.CompiledProgram.{IsLinearPattern, IsTypeState, IsPa
 use Rattle.xd_patterns.specs.Marked.{Marking}
 use Rattle.xd_patterns.specs.CompiledState.{IsCompiledState}
 use Rattle.xd_patterns.specs.Starting.{type_piece, pattern_piece, CanStart, IsPieceState}
-use Rattle.xd_patterns.specs.Tasks.{Tables, meanings}
+use Rattle.xd_patterns.specs.Tasks.{Tables}
 use Rattle.xd_patterns.specs.Variables.{put_each}
 use Rattle.xd_patterns.proofs.MarksLaw.{Keeps, kept_is_compiled}
 use Rattle.xd_patterns.proofs.PlainTypes.{type_bare, type_binds_nothing}

@@ -1,5 +1,6 @@
 -- Types and patterns of a program as states of one automaton.
 use Rattle.std.specs.Prelude.{◌≡◌, ◌↔◌, ℕ, true, List, map}
+use Rattle.std.specs.List.{AllByRecursion}
 use Rattle.xd_doc.specs.Document.{Document}
 use Rattle.xd_auto.specs.declared.auto.State.{State}
 use Rattle.xd_auto.specs.Automaton.{Automaton, IsState, accepts}
@@ -12,12 +13,15 @@ use Rattle.xd_syntax.specs.Patterns.{IsPattern, pattern_tree}
 use Rattle.xd_syntax.specs.declared.types.TypeId.{TypeId}
 use Rattle.xd_syntax.specs.declared.patterns.PatternId.{PatternId}
 use Rattle.xd_meaning.specs.Bindings.{variables_of}
+use Rattle.xd_meaning.specs.KeptFaults.{AllPaired}
 use Rattle.xd_pattern_runs.specs.Linear.{IsLinear}
 use Rattle.xd_patterns.specs.Marked.{Marking}
 use Rattle.xd_patterns.specs.CompiledState.{IsCompiledState}
 use Rattle.xd_patterns.specs.Held.{words_in, list_words, marking_in}
+use Rattle.xd_patterns.specs.Sources.{names_in}
 use Rattle.xd_patterns.specs.declared.compiled.CompiledProgram.{CompiledProgram}
 use Rattle.xd_patterns.specs.declared.compiled.PatternVariables.{PatternVariables}
+use Rattle.xd_patterns.specs.declared.sources.Sources.{Sources}
 
 -- the id is that of a pattern in which each way binds each variable once
 pub record IsLinearPattern (patterns : List Row) (id : PatternId) : Type 0 where
@@ -66,6 +70,13 @@ IsPatternState E patterns a k id s = IsCompiledState E (pattern_tree patterns id
 -- the state is that of a type, as of a pattern without variables
 abbrev pub IsTypeState : Definitions → List Row → Automaton → Marking → TypeId → State → Type 0
 IsTypeState E types a k id s = IsCompiledState E (tree types id) a k s
+
+-- the states are those of these types and patterns, and the words are those of all variables
+pub record AreCompiled (sources : Sources) (ids : List TypeId) (ps : List PatternId) (a : Automaton) (made : CompiledProgram) : Type 0 where
+  pub types : AllPaired (IsTypeState (names_in sources) sources.types.now a (marking_of_program made)) ids (type_states made)
+  pub patterns : AllPaired (IsPatternState (names_in sources) sources.patterns.now a (marking_of_program made)) ps (pattern_states made)
+  pub variables : pattern_variables made ≡ variables_of_patterns sources.patterns.now ps
+  pub words : AllByRecursion (AreWithin (words_of_program made)) (pattern_variables made)
 
 -- the state accepts just what fits the type
 pub record AcceptsType (E : Definitions) (types : List Row) (a : Automaton) (id : TypeId) (s : State) : Type 0 where

@@ -17,6 +17,8 @@ use Rattle.xd_continuations.specs.declared.links.Link.{Link}
 use Rattle.xd_patterns.specs.declared.chains.Piece.{Piece}
 use Rattle.xd_patterns.specs.declared.expand.Found.{Found}
 use Rattle.xd_patterns.specs.declared.compile.StateMarks.{StateMarks}
+use Rattle.xd_patterns.specs.declared.compile.Lists.{Lists}
+use Rattle.xd_patterns.specs.declared.compile.Target.{Target}
 
 -- the states from the base on are those of the lists with these numbers
 abbrev pub stands : Tables → List (Link ℕ) → List (Link Piece) → Option ℕ → Option Continuation
@@ -46,6 +48,18 @@ pub record AddsStates (base : ℕ) (old new : List ℕ) (old_auto new_auto : Aut
 pub record Spares (base : ℕ) (old new : Automaton) : Type 0 where
   pub states : (s : State) → IsState old s → IsState new s
   pub stay : (s : State) → state_number s < base → moves_at new s ≡ moves_at old s
+
+-- the lists with these numbers have the states from the base on, and their pieces are of these
+-- tables
+pub record HaveStates (t : Tables) (m : List (Link ℕ)) (lists : Lists) (base : ℕ) (auto : Automaton) : Type 0 where
+  pub count : length auto ≡ base + length lists.states.keys
+  pub pieces : ArePieces t m lists.cells
+  pub numbers : AllByRecursion (λ n. n ≤ length lists.cells) lists.states.keys
+
+-- the state is one of those from the base on
+pub record IsTarget (target : Target) (auto : Automaton) : Type 0 where
+  pub from : IsState auto target.from
+  pub after : target.base ≤ state_number target.from
 
 -- a move on a text is added to a state, after its others, with its marks
 pub record AddsText (marks number : ℕ) (words : TextClass) (from : State) (base : ℕ) (old new : List ℕ) (old_auto new_auto : Automaton) (texts texts' labels labels' : List ℕ) : Type 0 where

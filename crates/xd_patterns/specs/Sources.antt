@@ -3,11 +3,12 @@ use Rattle.std.specs.Prelude.{List}
 use Rattle.xd_syntax.specs.Table.{Row}
 use Rattle.xd_syntax.specs.Tree.{Definitions}
 use Rattle.xd_syntax.specs.declared.types.TypeDef.{TypeDef}
+use Rattle.xd_sound.specs.TypeNames.{meanings}
 use Rattle.xd_laws.specs.Guarded.{Guarded}
 use Rattle.xd_pattern_runs.specs.Linear.{BindNothing}
 use Rattle.xd_continuations.specs.Bodies.{AreBodies}
 use Rattle.xd_continuations.specs.declared.bodies.TypeBodies.{TypeBodies}
-use Rattle.xd_patterns.specs.Tasks.{Tables, meanings}
+use Rattle.xd_patterns.specs.Tasks.{Tables}
 use Rattle.xd_patterns.specs.declared.sources.Sources.{Sources}
 
 abbrev pub tables : Sources → Tables

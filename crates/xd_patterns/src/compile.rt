@@ -1,13 +1,12 @@
 //! Lists of pieces as states of an automaton.
 
-ghost use Rattle.std.specs.Prelude.{◌≡◌, ◌+◌, ◌<◌, ◌≤◌, ◌++◌, ◌∷◌, ◌⊎◌, [], ℕ, false, true, length, IfOk, OnOk};
-ghost use Rattle.std.specs.List.{AllByRecursion};
-ghost use Rattle.xd_auto.specs.Automaton.{IsState, moves_at, no_moves, state_number};
+ghost use Rattle.std.specs.Prelude.{◌≡◌, ◌+◌, ◌<◌, ◌≤◌, ◌⊎◌, [], false, true, length, IfOk, OnOk};
+ghost use Rattle.xd_auto.specs.Automaton.{moves_at, no_moves, state_number};
 ghost use Rattle.xd_auto.specs.declared.auto.State.{State};
 ghost use Rattle.xd_meaning.specs.Heads.{all_texts};
 ghost use Rattle.xd_patterns.specs.Sources.{IsDefined, names_in, tables};
-ghost use Rattle.xd_patterns.specs.Tasks.{ArePieces, IsFound, choice_at};
-ghost use Rattle.xd_patterns.specs.Compiling.{AddsElement, AddsMove, AddsText, FindsState, IsCompiling, Makes, Spares, rows_in};
+ghost use Rattle.xd_patterns.specs.Tasks.{IsFound, choice_at};
+ghost use Rattle.xd_patterns.specs.Compiling.{AddsElement, AddsMove, AddsText, FindsState, HaveStates, IsCompiling, IsTarget, Makes, Spares, rows_in};
 
 use crate::chains::{Cells, Marks};
 use crate::expand::{Found, expand, view};
@@ -35,9 +34,9 @@ pub(crate) struct Lists {
 
 /// The state that moves are added to, and the number of the first state that is a list's.
 #[derive(Clone, Copy)]
-struct Target {
-    from: State,
-    base: usize,
+pub(crate) struct Target {
+    pub from: State,
+    pub base: usize,
 }
 
 /// The class of all texts.
@@ -82,8 +81,7 @@ fn add_text(
     made: &mut StateMarks,
 ) -> Result<(), NoMemory>
     requires count { length auto.old ≡ target.base + length states.old.keys }
-    requires from { IsState auto.old target.from }
-    requires after { target.base ≤ state_number target.from }
+    requires target { IsTarget target auto.old }
     ensures spares { Spares target.base auto.old auto.new }
     ensures made { OnOk result (AddsText one.piece.marks one.rest words target.from target.base states.old.keys states.new.keys auto.old auto.new made.old.texts.items made.new.texts.items made.old.labels.items made.new.labels.items) }
 {
@@ -105,8 +103,7 @@ fn add_element(
     made: &mut StateMarks,
 ) -> Result<(), NoMemory>
     requires count { length auto.old ≡ target.base + length states.old.keys }
-    requires from { IsState auto.old target.from }
-    requires after { target.base ≤ state_number target.from }
+    requires target { IsTarget target auto.old }
     ensures spares { Spares target.base auto.old auto.new }
     ensures made { OnOk result (AddsElement one.piece.marks one.rest class inside target.from target.base states.old.keys states.new.keys auto.old auto.new made.old.texts.items made.new.texts.items made.old.labels.items made.new.labels.items) }
 {
@@ -128,11 +125,8 @@ fn add_move(
     auto: &mut Auto,
     made: &mut StateMarks,
 ) -> Result<(), NoMemory>
-    requires count { length auto.old ≡ target.base + length lists.old.states.keys }
-    requires from { IsState auto.old target.from }
-    requires after { target.base ≤ state_number target.from }
-    requires pieces { ArePieces (tables sources.now) marks.now lists.old.cells }
-    requires numbers { AllByRecursion (λ n. n ≤ length lists.old.cells) lists.old.states.keys }
+    requires target { IsTarget target auto.old }
+    requires lists { HaveStates (tables sources.now) marks.now lists.old target.base auto.old }
     requires found { (one.is_stop ≡ true) ⊎ IsFound (tables sources.now) marks.now lists.old.cells one }
     ensures spares { Spares target.base auto.old auto.new }
     ensures made { OnOk result (AddsMove (tables sources.now) marks.now lists.old.cells lists.new.cells target.base lists.old.states.keys lists.new.states.keys auto.old auto.new target.from
@@ -173,12 +167,9 @@ fn add_moves(
     auto: &mut Auto,
 ) -> Result<StateMarks, NoMemory>
     requires sound { IsDefined sources.now }
-    requires count { length auto.old ≡ target.base + length lists.old.states.keys }
-    requires from { IsState auto.old target.from }
-    requires after { target.base ≤ state_number target.from }
+    requires target { IsTarget target auto.old }
     requires fresh { moves_at auto.old target.from ≡ no_moves false }
-    requires pieces { ArePieces (tables sources.now) marks.old lists.old.cells }
-    requires numbers { AllByRecursion (λ n. n ≤ length lists.old.cells) lists.old.states.keys }
+    requires lists { HaveStates (tables sources.now) marks.old lists.old target.base auto.old }
     requires number { number ≤ length lists.old.cells }
     ensures spares { Spares target.base auto.old auto.new }
     ensures made { IfOk result (λ made. Makes (names_in sources.now) (tables sources.now) marks.old marks.new lists.old.cells lists.new.cells target.base number lists.old.states.keys lists.new.states.keys auto.old auto.new target.from
@@ -209,10 +200,8 @@ fn compile_into(
     table: &mut Vec<StateMarks>,
 ) -> Result<(), NoMemory>
     requires sound { IsDefined sources.now }
-    requires count { length auto.old ≡ base + length lists.old.states.keys }
     requires fresh { (s : State) → base ≤ state_number s → moves_at auto.old s ≡ no_moves false }
-    requires pieces { ArePieces (tables sources.now) marks.old lists.old.cells }
-    requires numbers { AllByRecursion (λ n. n ≤ length lists.old.cells) lists.old.states.keys }
+    requires lists { HaveStates (tables sources.now) marks.old lists.old base auto.old }
     requires none { table.old.items ≡ [] }
     ensures spares { Spares base auto.old auto.new }
     ensures made { OnOk result (IsCompiling (names_in sources.now) (tables sources.now) marks.old marks.new lists.old.cells lists.new.cells base lists.old.states.keys lists.new.states.keys auto.old auto.new
@@ -243,10 +232,8 @@ pub(crate) fn compile(
     auto: &mut Auto,
 ) -> Result<Vec<StateMarks>, NoMemory>
     requires sound { IsDefined sources.now }
-    requires count { length auto.old ≡ base + length lists.old.states.keys }
     requires fresh { (s : State) → base ≤ state_number s → moves_at auto.old s ≡ no_moves false }
-    requires pieces { ArePieces (tables sources.now) marks.old lists.old.cells }
-    requires numbers { AllByRecursion (λ n. n ≤ length lists.old.cells) lists.old.states.keys }
+    requires lists { HaveStates (tables sources.now) marks.old lists.old base auto.old }
     ensures spares { Spares base auto.old auto.new }
     ensures made { IfOk result (λ table. IsCompiling (names_in sources.now) (tables sources.now) marks.old marks.new lists.old.cells lists.new.cells base lists.old.states.keys lists.new.states.keys auto.old auto.new
         (length lists.new.states.keys) (rows_in table.items)) }

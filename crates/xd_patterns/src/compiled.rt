@@ -4,11 +4,10 @@ ghost use Rattle.std.specs.Prelude.{◌≡◌, ◌<◌, ◌++◌, [], IfOk, OnOk
 ghost use Rattle.std.specs.List.{AllByRecursion, IsDistinct};
 ghost use Rattle.std.specs.Str.{bytes_eq};
 ghost use Rattle.xd_auto.specs.Automaton.{Extends, KeepsAccepting};
-ghost use Rattle.xd_meaning.specs.KeptFaults.{AllPaired};
 ghost use Rattle.xd_syntax.specs.Types.{BelongsTo};
 ghost use Rattle.xd_syntax.specs.Words.{has_word};
-ghost use Rattle.xd_patterns.specs.Sources.{IsDefined, names_in};
-ghost use Rattle.xd_patterns.specs.CompiledProgram.{AreWithin, IsLinearPattern, IsPatternState, IsTypeState, each_variables, list_variables, marking_of_program, pattern_states, pattern_variables, type_states, variables_of_patterns, words_of_program};
+ghost use Rattle.xd_patterns.specs.Sources.{IsDefined};
+ghost use Rattle.xd_patterns.specs.CompiledProgram.{AreCompiled, AreWithin, IsLinearPattern, each_variables, list_variables, marking_of_program, pattern_states, pattern_variables, type_states, variables_of_patterns, words_of_program};
 ghost use Rattle.xd_patterns.specs.Held.{marks_at};
 ghost use Rattle.xd_patterns.specs.Starting.{pattern_piece, type_piece};
 ghost use Rattle.xd_patterns.specs.Variables.{put_each, words_of};
@@ -188,10 +187,7 @@ fn compile_marked_together(
     requires fresh { marks.old ≡ [] }
     ensures extends { Extends auto.old auto.new }
     ensures keeps { KeepsAccepting auto.old auto.new }
-    ensures types { IfOk result (λ made. AllPaired (IsTypeState (names_in sources.now) sources.now.types.now auto.new (marking_of_program made)) type_ids.now (type_states made)) }
-    ensures patterns { IfOk result (λ made. AllPaired (IsPatternState (names_in sources.now) sources.now.patterns.now auto.new (marking_of_program made)) pattern_ids.now (pattern_states made)) }
-    ensures variables { IfOk result (λ made. pattern_variables made ≡ variables_of_patterns sources.now.patterns.now pattern_ids.now) }
-    ensures words { IfOk result (λ made. AllByRecursion (AreWithin (words_of_program made)) (pattern_variables made)) }
+    ensures compiled { IfOk result (AreCompiled sources.now type_ids.now pattern_ids.now auto.new) }
 {
     sources.types.see_table();
     let base = auto.len();
@@ -227,10 +223,7 @@ pub(crate) fn compile_together(
     requires patterns { AllByRecursion (IsLinearPattern sources.now.patterns.now) pattern_ids.now }
     ensures extends { Extends auto.old auto.new }
     ensures keeps { KeepsAccepting auto.old auto.new }
-    ensures types { IfOk result (λ made. AllPaired (IsTypeState (names_in sources.now) sources.now.types.now auto.new (marking_of_program made)) type_ids.now (type_states made)) }
-    ensures patterns { IfOk result (λ made. AllPaired (IsPatternState (names_in sources.now) sources.now.patterns.now auto.new (marking_of_program made)) pattern_ids.now (pattern_states made)) }
-    ensures variables { IfOk result (λ made. pattern_variables made ≡ variables_of_patterns sources.now.patterns.now pattern_ids.now) }
-    ensures words { IfOk result (λ made. AllByRecursion (AreWithin (words_of_program made)) (pattern_variables made)) }
+    ensures compiled { IfOk result (AreCompiled sources.now type_ids.now pattern_ids.now auto.new) }
 {
     let mut marks = Marks::new(alloc);
     compile_marked_together(alloc, sources, type_ids, pattern_ids, &mut marks, auto)

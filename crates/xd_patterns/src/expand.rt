@@ -1,6 +1,6 @@
 //! What can come next, in order of preference.
 
-ghost use Rattle.std.specs.Prelude.{◌≡◌, true, IfOk, ◌<◌, ◌≤◌, ◌++◌, ◌∷◌, [], ℕ, false, length, OnOk, Option, Some, None};
+ghost use Rattle.std.specs.Prelude.{◌≡◌, true, IfOk, ◌<◌, ◌≤◌, ◌∷◌, [], false, length, OnOk, Option, Some, None};
 ghost use Rattle.xd_continuations.specs.Bodies.{AreBodies, node_of};
 ghost use Rattle.xd_continuations.specs.Chains.{list_at};
 ghost use Rattle.xd_pattern_runs.specs.Steps.{Ahead};

@@ -2,6 +2,7 @@
 
 ghost use Rattle.std.specs.Prelude.{◌≡◌, ◌<◌, [], IfOk, get_or, length};
 ghost use Rattle.xd_auto.specs.Automaton.{Extends, IsState, KeepsAccepting};
+ghost use Rattle.xd_sound.specs.TypeNames.{meanings};
 ghost use Rattle.xd_laws.specs.Guarded.{Guarded};
 ghost use Rattle.xd_pattern_runs.specs.Linear.{BindNothing, IsLinear};
 ghost use Rattle.xd_meaning.specs.Bindings.{variables_of};
@@ -11,7 +12,6 @@ ghost use Rattle.xd_continuations.specs.Bodies.{AreBodies};
 ghost use Rattle.xd_patterns.specs.Held.{marking_of, marks_at, variables_in};
 ghost use Rattle.xd_patterns.specs.Marked.{IsCompiled};
 ghost use Rattle.xd_patterns.specs.Sources.{IsDefined, names_in};
-ghost use Rattle.xd_patterns.specs.Tasks.{meanings};
 ghost use Rattle.xd_patterns.specs.Variables.{words_of};
 
 use crate::chains::Marks;

@@ -29,12 +29,12 @@ returns-in_err-rest-clause-spares c = spares_then _ _ _ _ c.state_of.ensures.spa
 
 pub returns-in_err-add_label_move-clause-spares : goal.returns-in_err-add_label_move-clause-spares
 returns-in_err-add_label_move-clause-spares c =
-    spares_then _ _ _ _ (spares_then _ _ _ _ c.state_of.ensures.spares c.state_of-2.ensures.spares) (spares_changed _ c.args.target.from _ _ c.requires.after c.add_label_move.ensures.others)
+    spares_then _ _ _ _ (spares_then _ _ _ _ c.state_of.ensures.spares c.state_of-2.ensures.spares) (spares_changed _ c.args.target.from _ _ c.requires.target.after c.add_label_move.ensures.others)
 
 pub returns-in_err-push-clause-spares : goal.returns-in_err-push-clause-spares
 returns-in_err-push-clause-spares c =
-    spares_then _ _ _ _ (spares_then _ _ _ _ c.state_of.ensures.spares c.state_of-2.ensures.spares) (spares_changed _ c.args.target.from _ _ c.requires.after c.add_label_move.ensures.others)
+    spares_then _ _ _ _ (spares_then _ _ _ _ c.state_of.ensures.spares c.state_of-2.ensures.spares) (spares_changed _ c.args.target.from _ _ c.requires.target.after c.add_label_move.ensures.others)
 
 pub returns-clause-spares : goal.returns-clause-spares
 returns-clause-spares c =
-    spares_then _ _ _ _ (spares_then _ _ _ _ c.state_of.ensures.spares c.state_of-2.ensures.spares) (spares_changed _ c.args.target.from _ _ c.requires.after c.add_label_move.ensures.others)
+    spares_then _ _ _ _ (spares_then _ _ _ _ c.state_of.ensures.spares c.state_of-2.ensures.spares) (spares_changed _ c.args.target.from _ _ c.requires.target.after c.add_label_move.ensures.others)

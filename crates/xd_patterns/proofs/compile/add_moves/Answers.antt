@@ -17,8 +17,8 @@ loop-one-init c =
     let a = c.in_ok-found.ensures.adds in (
       subst (λ ts. IsAdding t c.expand.new.marks c.expand.new.cells c.expand.new.cells c.args.target.base c.args.lists.now.states.keys c.args.lists.now.states.keys c.args.auto.now c.args.auto.now c.args.target.from ts c.new-2.result.items []) (sym c.new.ensures.items)
           (subst (λ ls. IsAdding t c.expand.new.marks c.expand.new.cells c.expand.new.cells c.args.target.base c.args.lists.now.states.keys c.args.lists.now.states.keys c.args.auto.now c.args.auto.now c.args.target.from [] ls []) (sym c.new-2.ensures.items)
-          (adding_none t c.expand.new.marks c.expand.new.cells c.args.target.base c.args.lists.now.states.keys c.args.auto.now c.args.target.from c.requires.count (a.pieces c.requires.pieces)
-          (numbers_grow t c.args.marks.now c.expand.new.marks c.args.lists.now.cells c.expand.new.cells a c.args.lists.now.states.keys c.requires.numbers) c.requires.fresh)),
+          (adding_none t c.expand.new.marks c.expand.new.cells c.args.target.base c.args.lists.now.states.keys c.args.auto.now c.args.target.from c.requires.lists.count (a.pieces c.requires.lists.pieces)
+          (numbers_grow t c.args.marks.now c.expand.new.marks c.args.lists.now.cells c.expand.new.cells a c.args.lists.now.states.keys c.requires.lists.numbers) c.requires.fresh)),
       spares_none c.args.target.base c.args.auto.now,
     )
 
@@ -32,7 +32,7 @@ loop-one-preserved c =
     let stand = subst (StandFound t c.expand.new.marks c.expand.new.cells) (sym c.as_slice-one-items.ensures.keys) c.in_ok-found.ensures.stand in (
       subst (IsAdding t c.expand.new.marks c.expand.new.cells c.add_move.new.lists.cells c.args.target.base c.args.lists.now.states.keys c.add_move.new.lists.states.keys c.args.auto.now c.add_move.new.auto c.args.target.from c.add_move.new.made.texts.items c.add_move.new.made.labels.items)
           (sym (take_more fs i no_found c.loop-one-test.true))
-          (adding_more t c.expand.new.marks c.expand.new.cells c.args.target.base c.args.lists.now.states.keys c.args.auto.now c.args.target.from (a.pieces c.requires.pieces) c.loop-one.lists.cells c.add_move.new.lists.cells c.loop-one.lists.states.keys c.add_move.new.lists.states.keys
+          (adding_more t c.expand.new.marks c.expand.new.cells c.args.target.base c.args.lists.now.states.keys c.args.auto.now c.args.target.from (a.pieces c.requires.lists.pieces) c.loop-one.lists.cells c.add_move.new.lists.cells c.loop-one.lists.states.keys c.add_move.new.lists.states.keys
           c.loop-one.auto' c.add_move.new.auto c.loop-one.made.texts.items c.add_move.new.made.texts.items c.loop-one.made.labels.items c.add_move.new.made.labels.items (take i fs) (get_or fs i no_found) c.loop-one.invariant.0
           (found_at t c.expand.new.marks c.expand.new.cells fs i no_found stand c.loop-one-test.true) c.in_ok-add_move.ensures.made),
       spares_then c.args.target.base c.args.auto.now c.loop-one.auto' c.add_move.new.auto c.loop-one.invariant.1 c.in_ok-add_move.ensures.spares,
@@ -44,7 +44,7 @@ returns-clause-made c =
     let test = c.loop-one-test.false in
     let e = take_all c.loop-one.one-index c.as_slice-one-items.result.now test ∙ c.as_slice-one-items.ensures.keys in
     makes (names_in c.args.sources.now) t c.args.marks.now c.expand.new.marks c.args.lists.now.cells c.expand.new.cells c.loop-one.lists.cells c.args.target.base c.args.number c.args.lists.now.states.keys c.loop-one.lists.states.keys
-    c.args.auto.now c.loop-one.auto' c.args.target.from c.loop-one.made.texts.items c.loop-one.made.labels.items c.in_ok-found.found.keys c.requires.numbers c.requires.count c.in_ok-found.ensures
+    c.args.auto.now c.loop-one.auto' c.args.target.from c.loop-one.made.texts.items c.loop-one.made.labels.items c.in_ok-found.found.keys c.requires.lists.numbers c.requires.lists.count c.in_ok-found.ensures
     (subst (IsAdding t c.expand.new.marks c.expand.new.cells c.loop-one.lists.cells c.args.target.base c.args.lists.now.states.keys c.loop-one.lists.states.keys c.args.auto.now c.loop-one.auto' c.args.target.from c.loop-one.made.texts.items c.loop-one.made.labels.items) e c.loop-one.invariant.0)
 
 pub returns-in_err-add_move-clause-spares : goal.returns-in_err-add_move-clause-spares
@@ -59,3 +59,10 @@ add_move-requires-clause-found c =
     let stand = subst (StandFound t c.expand.new.marks c.expand.new.cells) (sym c.as_slice-one-items.ensures.keys) c.in_ok-found.ensures.stand in
     still_found t c.expand.new.marks c.expand.new.cells c.loop-one.lists.cells c.loop-one.invariant.0.grows.adds.cells (get_or fs i no_found)
     (found_at t c.expand.new.marks c.expand.new.cells fs i no_found stand c.loop-one-test.true)
+
+pub add_move-requires-clause-lists : goal.add_move-requires-clause-lists
+add_move-requires-clause-lists c =
+    let i = c.loop-one.invariant.0 in record { count = i.grows.count; pieces = i.pieces; numbers = i.bounded }
+
+pub add_move-requires-clause-target : goal.add_move-requires-clause-target
+add_move-requires-clause-target c = record { from = c.loop-one.invariant.1.states c.args.target.from c.requires.target.from; after = c.requires.target.after }

@@ -18,7 +18,7 @@ returns-clause-made c = record {
 
 -- ---- old states stay as they were
 pub returns-in_err-push-clause-spares : goal.returns-in_err-push-clause-spares
-returns-in_err-push-clause-spares c = spares_then _ _ _ _ c.state_of.ensures.spares (spares_changed _ c.args.target.from _ _ c.requires.after c.add_text_move.ensures.others)
+returns-in_err-push-clause-spares c = spares_then _ _ _ _ c.state_of.ensures.spares (spares_changed _ c.args.target.from _ _ c.requires.target.after c.add_text_move.ensures.others)
 
 pub returns-clause-spares : goal.returns-clause-spares
-returns-clause-spares c = spares_then _ _ _ _ c.state_of.ensures.spares (spares_changed _ c.args.target.from _ _ c.requires.after c.add_text_move.ensures.others)
+returns-clause-spares c = spares_then _ _ _ _ c.state_of.ensures.spares (spares_changed _ c.args.target.from _ _ c.requires.target.after c.add_text_move.ensures.others)

@@ -3,10 +3,8 @@ use Rattle.xd_patterns.proofs.compile.compile.Goals as goal
 pub compile_into-requires : goal.compile_into-requires
 compile_into-requires c = record {
   sound = c.requires.sound;
-  count = c.requires.count;
   fresh = c.requires.fresh;
-  pieces = c.requires.pieces;
-  numbers = c.requires.numbers;
+  lists = c.requires.lists;
   none = c.new-table.ensures.items;
 }
 

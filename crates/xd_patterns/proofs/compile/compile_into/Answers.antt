@@ -12,22 +12,24 @@ loop-done-init c =
     let t = tables c.args.sources.now in
     let E = names_in c.args.sources.now in (
       subst (λ (rs : List StateMarks). IsCompiling E t c.args.marks.now c.args.marks.now c.args.lists.now.cells c.args.lists.now.cells c.args.base c.args.lists.now.states.keys c.args.lists.now.states.keys c.args.auto.now c.args.auto.now 0 (rows_in rs)) (sym c.requires.none)
-          (compiling_none E t c.args.marks.now c.args.lists.now.cells c.args.base c.args.lists.now.states.keys c.args.auto.now c.requires.pieces c.requires.numbers c.requires.count c.requires.fresh),
+          (compiling_none E t c.args.marks.now c.args.lists.now.cells c.args.base c.args.lists.now.states.keys c.args.auto.now c.requires.lists.pieces c.requires.lists.numbers c.requires.lists.count c.requires.fresh),
       omega arith,
       spares_none c.args.base c.args.auto.now,
     )
 
-pub add_moves-requires-clause-count : goal.add_moves-requires-clause-count
-add_moves-requires-clause-count c = c.loop-done.invariant.0.count
+pub add_moves-requires-clause-lists : goal.add_moves-requires-clause-lists
+add_moves-requires-clause-lists c =
+    let i = c.loop-done.invariant.0 in record { count = i.count; pieces = i.pieces; numbers = i.bounded }
 
 pub add_moves-requires-clause-fresh : goal.add_moves-requires-clause-fresh
 add_moves-requires-clause-fresh c = let n = c.state-from.ensures.number in c.loop-done.invariant.0.fresh c.state-from.result (omega arith)
 
-pub add_moves-requires-clause-pieces : goal.add_moves-requires-clause-pieces
-add_moves-requires-clause-pieces c = c.loop-done.invariant.0.pieces
-
-pub add_moves-requires-clause-numbers : goal.add_moves-requires-clause-numbers
-add_moves-requires-clause-numbers c = c.loop-done.invariant.0.bounded
+pub add_moves-requires-clause-target : goal.add_moves-requires-clause-target
+add_moves-requires-clause-target c =
+    let n = c.state-from.ensures.number in
+    let count = c.loop-done.invariant.0.count in
+    let test = c.if-done-len.false in
+    let long = c.len.ensures.len in record { from = omega arith; after = omega arith }
 
 pub loop-done-preserved : goal.loop-done-preserved
 loop-done-preserved c =

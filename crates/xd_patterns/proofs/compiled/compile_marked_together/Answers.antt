@@ -29,36 +29,27 @@ split_off-requires c =
     (subst (λ qs. AllPaired R qs c.in_ok-starts.starts.items) (c.deref.ensures.value ∙ c.in_ok-pieces.ensures) c.in_ok-starts.ensures.states) in
     omega (arith, room, c.in_ok-starts.starts.ok.0)
 
-pub returns-clause-types : goal.returns-clause-types
-returns-clause-types c =
+pub returns-clause-compiled : goal.returns-clause-compiled
+returns-clause-compiled c =
     let t = tables c.args.sources.now in
     let E = names_in c.args.sources.now in
     let a = c.compile_pieces.new.auto in
-    let m = c.compile_pieces.new.marks in
+    let ids = c.args.type_ids.now in
+    let ps = c.args.pattern_ids.now in
+    let starts = c.in_ok-starts.starts.items in
     let moves : MarkTable = record { words = c.in_ok-variables.words; base = c.len-base.result; rows = c.in_ok-starts.rows; lists = c.in_ok-lists.lists } in
-    let k = λ (b : ℕ). marking t m b (rows_in c.in_ok-starts.rows.items) in
+    let k = λ (b : ℕ). marking t c.compile_pieces.new.marks b (rows_in c.in_ok-starts.rows.items) in
+    let keeps = table_keeps t c.compile_pieces.new.marks moves c.in_ok-lists.ensures in
     let states =
-    subst (λ qs. AllPaired (IsPieceState E t a (k c.len-base.result)) qs c.in_ok-starts.starts.items) (c.deref.ensures.value ∙ c.in_ok-pieces.ensures)
-    (subst (λ (b : ℕ). AllPaired (IsPieceState E t a (k b)) c.deref.result.now c.in_ok-starts.starts.items) (sym c.len-base.ensures.value) c.in_ok-starts.ensures.states) in
-    subst (AllPaired (IsTypeState E t.types a (marking_in moves)) c.args.type_ids.now) (sym c.in_ok-behind.ensures.items)
-    (type_states_of E t a (k c.len-base.result) (marking_in moves) moves.words.keys (table_keeps t m moves c.in_ok-lists.ensures) c.see_table.ensures c.args.type_ids.now (map pattern_piece c.args.pattern_ids.now) c.in_ok-starts.starts.items c.requires.types states)
-
-pub returns-clause-patterns : goal.returns-clause-patterns
-returns-clause-patterns c =
-    let t = tables c.args.sources.now in
-    let E = names_in c.args.sources.now in
-    let a = c.compile_pieces.new.auto in
-    let m = c.compile_pieces.new.marks in
-    let moves : MarkTable = record { words = c.in_ok-variables.words; base = c.len-base.result; rows = c.in_ok-starts.rows; lists = c.in_ok-lists.lists } in
-    let k = λ (b : ℕ). marking t m b (rows_in c.in_ok-starts.rows.items) in
-    let states =
-    subst (λ qs. AllPaired (IsPieceState E t a (k c.len-base.result)) qs c.in_ok-starts.starts.items) (c.deref.ensures.value ∙ c.in_ok-pieces.ensures)
-    (subst (λ (b : ℕ). AllPaired (IsPieceState E t a (k b)) c.deref.result.now c.in_ok-starts.starts.items) (sym c.len-base.ensures.value) c.in_ok-starts.ensures.states) in
-    subst (AllPaired (IsPatternState E t.patterns a (marking_in moves)) c.args.pattern_ids.now) (sym c.in_ok-behind.ensures.tail)
-    (pattern_states_of E t a (k c.len-base.result) (marking_in moves) moves.words.keys (table_keeps t m moves c.in_ok-lists.ensures) c.args.type_ids.now c.args.pattern_ids.now c.in_ok-starts.starts.items c.in_ok-variables.ensures.all states)
-
-pub returns-clause-variables : goal.returns-clause-variables
-returns-clause-variables c = c.in_ok-variables.ensures.each
-
-pub returns-clause-words : goal.returns-clause-words
-returns-clause-words c = subst (AllByRecursion (AreWithin c.in_ok-variables.words.keys)) (sym c.in_ok-variables.ensures.each) c.in_ok-variables.ensures.all
+    subst (λ qs. AllPaired (IsPieceState E t a (k c.len-base.result)) qs starts) (c.deref.ensures.value ∙ c.in_ok-pieces.ensures)
+    (subst (λ (b : ℕ). AllPaired (IsPieceState E t a (k b)) c.deref.result.now starts) (sym c.len-base.ensures.value) c.in_ok-starts.ensures.states) in
+    record {
+      types =
+          subst (AllPaired (IsTypeState E t.types a (marking_in moves)) ids) (sym c.in_ok-behind.ensures.items)
+          (type_states_of E t a (k c.len-base.result) (marking_in moves) moves.words.keys keeps c.see_table.ensures ids (map pattern_piece ps) starts c.requires.types states);
+      patterns =
+          subst (AllPaired (IsPatternState E t.patterns a (marking_in moves)) ps) (sym c.in_ok-behind.ensures.tail)
+          (pattern_states_of E t a (k c.len-base.result) (marking_in moves) moves.words.keys keeps ids ps starts c.in_ok-variables.ensures.all states);
+      variables = c.in_ok-variables.ensures.each;
+      words = subst (AllByRecursion (AreWithin moves.words.keys)) (sym c.in_ok-variables.ensures.each) c.in_ok-variables.ensures.all;
+    }

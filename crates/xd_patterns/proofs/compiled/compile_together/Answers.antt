@@ -12,8 +12,5 @@ pub returns : goal.returns
 returns c = record {
   extends = c.compile_marked_together.ensures.extends;
   keeps = c.compile_marked_together.ensures.keeps;
-  types = c.compile_marked_together.ensures.types;
-  patterns = c.compile_marked_together.ensures.patterns;
-  variables = c.compile_marked_together.ensures.variables;
-  words = c.compile_marked_together.ensures.words;
+  compiled = c.compile_marked_together.ensures.compiled;
 }

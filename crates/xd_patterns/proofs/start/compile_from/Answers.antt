@@ -31,16 +31,11 @@ returns-clause-binders c =
     let t = tables c.args.sources.now in
     c.in_ok-table.ensures.made.adds.binders (subst (AreBinders t) (sym c.requires.fresh) tt)
 
-pub compile-requires-clause-count : goal.compile-requires-clause-count
-compile-requires-clause-count c = c.in_ok-starts.ensures.starts.adds.count
-
-pub compile-requires-clause-pieces : goal.compile-requires-clause-pieces
-compile-requires-clause-pieces c =
+pub compile-requires-clause-lists : goal.compile-requires-clause-lists
+compile-requires-clause-lists c =
     let t = tables c.args.sources.now in
-    c.in_ok-starts.ensures.starts.pieces t c.args.marks.now (are_pieces t c.args.marks.now c.args.pieces.now c.requires.pieces)
-
-pub compile-requires-clause-numbers : goal.compile-requires-clause-numbers
-compile-requires-clause-numbers c = c.in_ok-starts.ensures.starts.bounded
+    let s = c.in_ok-starts.ensures.starts in
+    record { count = s.adds.count; pieces = s.pieces t c.args.marks.now (are_pieces t c.args.marks.now c.args.pieces.now c.requires.pieces); numbers = s.bounded }
 
 pub compile-requires-clause-fresh : goal.compile-requires-clause-fresh
 compile-requires-clause-fresh c = fresh_from c.len-base.result c.args.auto.now c.add_starts.new.auto c.len-base.ensures.value c.in_ok-starts.ensures.starts.adds.moves

@@ -10,10 +10,10 @@ use Rattle.xd_syntax.specs.Tree.{occurrences}
 use Rattle.xd_meaning.specs.Bindings.{variables_of}
 use Rattle.xd_syntax.specs.Table.{Row}
 use Rattle.xd_syntax.specs.declared.types.TypeDef.{TypeDef}
+use Rattle.xd_sound.specs.TypeNames.{meanings}
 use Rattle.xd_pattern_runs.specs.Linear.{BindNothing}
 use Rattle.xd_pattern_runs.proofs.NamesBindNothing.{names_bind_nothing}
 use Rattle.xd_patterns.specs.Held.{marking_of}
-use Rattle.xd_patterns.specs.Tasks.{meanings}
 use Rattle.xd_match.proofs.Variables.{once_distinct}
 use Rattle.xd_match.proofs.PatternLaws.{compiled_matches}
 use Rattle.xd_match.proofs.matcher.Matcher.new.Goals as goal

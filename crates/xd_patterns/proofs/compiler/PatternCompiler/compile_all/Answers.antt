@@ -21,7 +21,7 @@ returns-clause-types c =
     let a = c.compile_together.new.auto in
     types_accept p s.sound s.table a (marking_of_program m) c.args.types.now (type_states m) c.requires.types
     (subst (λ E. AllPaired (IsTypeState E p.types a (marking_of_program m)) c.args.types.now (type_states m)) s.names
-    (subst (λ rows. AllPaired (IsTypeState (names_in c.sources_of-sources.result) rows a (marking_of_program m)) c.args.types.now (type_states m)) s.types c.in_ok-compiled.ensures.types))
+    (subst (λ rows. AllPaired (IsTypeState (names_in c.sources_of-sources.result) rows a (marking_of_program m)) c.args.types.now (type_states m)) s.types c.in_ok-compiled.ensures.compiled.types))
 
 pub returns-clause-patterns : goal.returns-clause-patterns
 returns-clause-patterns c =
@@ -29,10 +29,10 @@ returns-clause-patterns c =
     let m = c.in_ok-compiled.compiled in
     let a = c.compile_together.new.auto in
     subst (λ E. AllPaired (IsPatternState E c.args.sound.now.patterns a (marking_of_program m)) c.args.patterns.now (pattern_states m)) s.names
-    (subst (λ rows. AllPaired (IsPatternState (names_in c.sources_of-sources.result) rows a (marking_of_program m)) c.args.patterns.now (pattern_states m)) s.patterns c.in_ok-compiled.ensures.patterns)
+    (subst (λ rows. AllPaired (IsPatternState (names_in c.sources_of-sources.result) rows a (marking_of_program m)) c.args.patterns.now (pattern_states m)) s.patterns c.in_ok-compiled.ensures.compiled.patterns)
 
 pub returns-clause-variables : goal.returns-clause-variables
-returns-clause-variables c = c.in_ok-compiled.ensures.variables ∙ ap (λ rows. variables_of_patterns rows c.args.patterns.now) c.sources_of-sources.ensures.patterns
+returns-clause-variables c = c.in_ok-compiled.ensures.compiled.variables ∙ ap (λ rows. variables_of_patterns rows c.args.patterns.now) c.sources_of-sources.ensures.patterns
 
 pub returns-clause-words : goal.returns-clause-words
-returns-clause-words c = c.in_ok-compiled.ensures.words
+returns-clause-words c = c.in_ok-compiled.ensures.compiled.words

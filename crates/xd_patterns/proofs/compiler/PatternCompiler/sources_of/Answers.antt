@@ -3,7 +3,7 @@ use Rattle.xd_syntax.specs.Kept.{ProgramTable, program_tree}
 use Rattle.xd_syntax.specs.Program.{names_of}
 use Rattle.xd_syntax.specs.ProperTables.{IsTable}
 use Rattle.xd_syntax.proofs.KeptLaws.{along}
-use Rattle.xd_patterns.specs.Tasks.{meanings}
+use Rattle.xd_sound.specs.TypeNames.{meanings}
 use Rattle.xd_patterns.proofs.ServesLemmas.{serves_defined}
 use Rattle.xd_patterns.proofs.compiler.PatternCompiler.sources_of.Goals as goal
 
