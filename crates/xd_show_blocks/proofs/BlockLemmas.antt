@@ -1,9 +1,17 @@
 -- Blocks of variables, from the states that accept what they may be.
 use Rattle.std.proofs.Common.{◌≡◌, ℕ, true, List, [], ◌∷◌, ◌++◌, refl, sym, ap, subst, ◌∙◌}
-use Rattle.std.specs.Prelude.{◌↔◌, map, flat_map}
+use Rattle.std.specs.Prelude.{◌↔◌, ◌<◌, Some, codes, cond, map, flat_map}
+use Rattle.std.specs.BTreeMap.{BTreeMap, get}
+use Rattle.std.specs.Cmp.{ranks}
+use Rattle.std.specs.Ordering.{MatchOrdering, is_eq, nat_cmp}
+use Rattle.std.specs.declared.cmp.Ordering.{Ordering}
+use Rattle.std.specs.declared.cmp.Ordering.TheVariants.{Less, Equal, Greater}
 use Rattle.std.specs.List.{AllZip, AllByRecursion}
 use Rattle.xd_auto.specs.Automaton.{Automaton, IsState}
+use Rattle.xd_auto.specs.declared.auto.State.{State}
+use Rattle.xd_auto.proofs.Closed.{same_state}
 use Rattle.xd_doc.specs.Document.{Document, is_proper}
+use Rattle.xd_report.specs.Report.{place_front}
 use Rattle.xd_shown.specs.Shown.{defined_names}
 use Rattle.xd_shown.proofs.AreMeantLemmas.{same_set}
 use Rattle.xd_syntax.specs.Kept.{ProgramTable, program_tree, type_definition}
@@ -17,7 +25,8 @@ use Rattle.xd_type_laws.specs.DefinitionsText.{definition_line, definitions_text
 use Rattle.xd_variables.specs.Bound.{IsBound}
 use Rattle.xd_variables.specs.Seen.{AreSeenVariables, Gives, Reading, SeenVariable}
 use Rattle.xd_variables.specs.declared.variables.BoundVariable.{BoundVariable}
-use Rattle.xd_show_blocks.specs.AtStates.{Accepted, HasBlocks, IsBlockAt}
+use Rattle.xd_show_blocks.specs.AtStates.{Accepted, AddsBlock, AreShownBy, HasBlocks, IsBlockAt, IsShownBy, text_of_block}
+use Rattle.xd_show_blocks.specs.declared.shown.ShownState.{ShownState}
 use Rattle.xd_show_blocks.specs.Blocks.{AreBlocks, Block, IsBlockOf, IsShownText, Shows, block_text, blocks_text, shown_text}
 
 -- ---- sets that have the same proper documents are shown alike
@@ -26,6 +35,9 @@ SameSet D D' = (d : Document) → is_proper d ≡ true → D d ↔ D' d
 
 pub shows_along : (D D' : Document → Type 0) (taken : List (List ℕ)) (Q : ProgramTree) (start : List ℕ) → SameSet D D' → Shows D taken Q start → Shows D' taken Q start
 shows_along D D' taken Q start same s = record { shown = same_set same s.shown; reads_back = s.reads_back }
+
+pub shown_along : (D D' : Document → Type 0) (taken : List (List ℕ)) (k : ShownState) → SameSet D D' → IsShownBy D taken k → IsShownBy D' taken k
+shown_along D D' taken k same s = record { program = s.program; shows = shows_along D D' taken s.program k.start same s.shows; written = s.written }
 
 -- ---- the lines of definitions
 abbrev pub line_of : List Row → TypeDef → List ℕ
@@ -49,6 +61,27 @@ module _ (a : Automaton) (taken : List (List ℕ)) where
   each_more [] (c ∷ bs) x b z h = absurd z
   each_more (y ∷ xs) [] x b z h = absurd z
   each_more (y ∷ xs) (c ∷ bs) x b z h = (z.0, each_more xs bs x b z.1 h)
+
+  -- the block of a variable whose state is shown so
+  pub block_added : (x : BoundVariable) (k : ShownState) (old new : List ℕ) → IsShownBy (Accepted a x.state) taken k → new ≡ old ++ text_of_block x k → AddsBlock a taken x old new
+  block_added x k old new s e =
+      let b : Block = record { place = x.place; variable = x.word; program = s.program; start = k.start } in
+      let same : text_of_block x k ≡ block_text b = ap (λ (t : List ℕ). place_front x.place ++ codes "variable " ++ x.word ++ codes " as " ++ k.start ++ codes "\n" ++ t) s.written in
+      record {
+        block = b;
+        shows = record { place = refl; variable = refl; shows = s.shows };
+        grown = e ∙ ap (λ (t : List ℕ). old ++ t) same;
+      }
+
+  -- one more state that is shown
+  pub kept_more : (m n : BTreeMap ℕ ShownState) (s : State) (k : ShownState) → IsShownBy (Accepted a s) taken k
+      → ((i : ℕ) → get nat_cmp n i ≡ cond (is_eq (nat_cmp s.number i)) (Some k) (get nat_cmp m i)) → AreShownBy a taken m → AreShownBy a taken n
+  kept_more m n s k shown e old t u f = pick (nat_cmp s.number t.number) (ranks s.number t.number) (sym (e t.number) ∙ f)
+    where
+      pick : (r : Ordering) → MatchOrdering r (s.number < t.number) (s.number ≡ t.number) (t.number < s.number) → cond (is_eq r) (Some k) (get nat_cmp m t.number) ≡ Some u → IsShownBy (Accepted a t) taken u
+      pick Less h g = old t u g
+      pick Equal h g = (let w : k ≡ u = cc in subst (IsShownBy (Accepted a t) taken) w (subst (λ (v : State). IsShownBy (Accepted a v) taken k) (same_state s t h) shown))
+      pick Greater h g = old t u g
 
   module _ (B : Reading) (P : ProgramTree) where
     pub states_there : (vs : List SeenVariable) (xs : List BoundVariable) → AllZip (IsBound B P a) vs xs → AllByRecursion (λ (x : BoundVariable). IsState a x.state) xs

@@ -6,27 +6,26 @@ ghost use Rattle.xd_auto.specs.Automaton.{IsState};
 ghost use Rattle.xd_syntax.specs.Kept.{program_tree};
 ghost use Rattle.xd_variables.specs.Bound.{reading_of};
 ghost use Rattle.xd_variables.specs.declared.variables.BoundVariable.{BoundVariable as Found};
-ghost use Rattle.xd_show_blocks.specs.AtStates.{AddsBlock, HasBlocks, block_of};
-ghost use Rattle.xd_show_blocks.specs.Blocks.{AreBlocks, block_text};
+ghost use Rattle.xd_show_blocks.specs.AtStates.{Accepted, AddsBlock, AreShownBy, HasBlocks, IsShownBy, text_of_block};
+ghost use Rattle.xd_show_blocks.specs.Blocks.{AreBlocks};
 
-use crate::definitions::{type_names, write_definitions};
+use crate::definitions::type_names;
+use crate::shown::{ShownState, shown_state};
 use std::alloc::Global;
-use xd_auto::{Auto, trim};
+use std::collections::BTreeMap;
+use xd_auto::{Auto, State, trim};
 use xd_doc::{Label, NoMemory};
 use xd_report::{write_place_front, write_texts};
-use xd_show::show;
-use xd_shown::Shown;
 use xd_sound::Checked;
 use xd_variables::{Bound, BoundVariable, Ways, bound_variables};
 
-/// Appends the block of a variable with these definitions.
+/// Appends the block of a variable whose state is shown so.
 fn write_block(
-    alloc: Global,
     variable: &BoundVariable,
-    shown: &Shown,
+    shown: &ShownState,
     out: &mut Vec<u8>,
 ) -> Result<(), NoMemory>
-    ensures { OnOk result (out.new.items ≡ out.old.items ++ block_text (block_of variable.now shown.now)) }
+    ensures { OnOk result (out.new.items ≡ out.old.items ++ text_of_block variable.now shown.now) }
 {
     write_place_front(variable.place, out)?;
     write_texts(
@@ -39,24 +38,48 @@ fn write_block(
         ],
         out,
     )?;
-    write_definitions(alloc, &shown.sound, out)
+    out.extend_from_slice(&shown.definitions)?;
+    Ok(())
 }
 
-/// Appends the block of a variable of this automaton, by names that aren't taken.
+/// Definitions that show what the state accepts, from the states alone that it leads to.
+fn shown_apart(
+    alloc: Global,
+    auto: &Auto,
+    state: State,
+    taken: &[Label],
+) -> Result<ShownState, NoMemory>
+    requires { IsState auto.now state }
+    ensures { IfOk result (IsShownBy (Accepted auto.now state) taken.now) }
+{
+    let (part, state) = trim(alloc, auto, state)?;
+    shown_state(alloc, &part, state, taken)
+}
+
+/// Appends the block of a variable of this automaton, by names that aren't taken. A state that was
+/// shown before is not shown anew.
 fn add_block(
     alloc: Global,
     auto: &Auto,
     variable: &BoundVariable,
     taken: &[Label],
+    states: &mut BTreeMap<usize, ShownState>,
     out: &mut Vec<u8>,
 ) -> Result<(), NoMemory>
-    requires { IsState auto.now variable.now.state }
-    ensures { OnOk result (AddsBlock auto.now taken.now variable.now out.old.items out.new.items) }
+    requires state { IsState auto.now variable.now.state }
+    requires states { AreShownBy auto.now taken.now states.old }
+    ensures block { OnOk result (AddsBlock auto.now taken.now variable.now out.old.items out.new.items) }
+    ensures states { OnOk result (AreShownBy auto.now taken.now states.new) }
 {
-    let (part, state) = trim(alloc, auto, variable.state)?;
-    let shown = show(alloc, &part, state, taken)?;
-    shown.see_text();
-    write_block(alloc, variable, &shown, out)
+    let number = variable.state.number();
+    if let Some(shown) = states.get(&number) {
+        write_block(variable, shown, out)?;
+        return Ok(());
+    }
+    let shown = shown_apart(alloc, auto, variable.state, taken)?;
+    write_block(variable, &shown, out)?;
+    states.insert(number, shown)?;
+    Ok(())
 }
 
 /// The blocks of these variables, in their order.
@@ -65,8 +88,9 @@ fn blocks_of(alloc: Global, bound: &Bound, taken: &[Label]) -> Result<Vec<u8>, N
     ensures { IfOk result (λ text. HasBlocks bound.now.auto taken.now bound.now.variables.items text.items) }
 {
     let mut text = Vec::new(alloc);
+    let mut states = BTreeMap::new(alloc);
     for variable in &bound.variables {
-        add_block(alloc, &bound.auto, variable, taken, &mut text)?;
+        add_block(alloc, &bound.auto, variable, taken, &mut states, &mut text)?;
     }
     Ok(text)
 }

@@ -1,21 +1,23 @@
-use Rattle.std.proofs.Common.{refl, sym, ◌∙◌}
-use Rattle.std.proofs.lemmas.Result.{on_ok_weaker}
-use Rattle.xd_syntax.specs.Kept.{program_tree}
-use Rattle.xd_show_blocks.specs.AtStates.{Accepted, IsBlockAt, block_of}
-use Rattle.xd_show_blocks.specs.Blocks.{Shows}
-use Rattle.xd_show_blocks.proofs.BlockLemmas.{shows_along}
+use Rattle.std.proofs.Common.{◌≡◌, ℕ, Some, cond, subst, rules}
+use Rattle.std.specs.BTreeMap.{get}
+use Rattle.std.specs.Ordering.{is_eq, nat_cmp}
+use Rattle.xd_show_blocks.proofs.BlockLemmas.{block_added, kept_more}
 use Rattle.xd_show_blocks.proofs.blocks.add_block.Goals as goal
 
-pub returns : goal.returns
-returns c =
+pub returns-in-Some-clause-block : goal.returns-in-Some-clause-block
+returns-in-Some-clause-block c =
     let x = c.args.variable.now in
-    let a = c.args.auto.now in
-    let taken = c.args.taken.now in
-    let part = c.in_ok-part.part in
-    let state = c.in_ok-part.state in
-    let shown = c.in_ok-shown.shown in
-    let same = c.in_ok-part.ensures.ok in
-    let of_part : Shows (Accepted part state) taken (program_tree shown.sound) shown.start = record { shown = c.in_ok-shown.ensures; reads_back = c.see_text.ensures } in
-    let shows = shows_along (Accepted part state) (Accepted a x.state) taken (program_tree shown.sound) shown.start (λ d p. (λ e. sym (same d) ∙ e, λ e. same d ∙ e)) of_part in
-    let block : IsBlockAt a taken x (block_of x shown) = record { place = refl; variable = refl; shows = shows } in
-    on_ok_weaker c.write_block.result (λ e. record { block = block_of x shown; shows = block; grown = e }) c.write_block.ensures
+    let k = c.in-Some.shown.now in
+    let kept : get nat_cmp c.args.states.now (x.state).number ≡ Some k = search rules in
+    block_added c.args.auto.now c.args.taken.now x k c.args.out.now.items c.write_block.new.out.items (c.requires.states x.state k kept) c.in_ok-write_block.ensures
+
+pub returns-clause-block : goal.returns-clause-block
+returns-clause-block c = block_added c.args.auto.now c.args.taken.now c.args.variable.now c.in_ok-shown.shown c.args.out.now.items c.write_block-2.new.out.items c.in_ok-shown.ensures c.in_ok-write_block-2.ensures
+
+pub returns-clause-states : goal.returns-clause-states
+returns-clause-states c =
+    let k = c.in_ok-shown.shown in
+    let m = c.args.states.now in
+    let n = c.insert.new.self in
+    kept_more c.args.auto.now c.args.taken.now m n (c.args.variable.now).state k c.in_ok-shown.ensures
+    (subst (λ (j : ℕ). (i : ℕ) → get nat_cmp n i ≡ cond (is_eq (nat_cmp j i)) (Some k) (get nat_cmp m i)) c.number-number.ensures c.in_ok-insert.ensures.updates.0) c.requires.states

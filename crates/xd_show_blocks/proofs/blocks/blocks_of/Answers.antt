@@ -13,11 +13,14 @@ loop-variable-preserved c =
     let xs = c.deref-variable-items.result.now in
     let i = c.loop-variable.variable-index in
     let x = c.variable-item.result in
-    let so_far = c.loop-variable.invariant in
-    let added = c.in_ok-add_block.ensures in
+    let so_far = c.loop-variable.invariant.written in
+    let added = c.in_ok-add_block.ensures.block in
     let more : take (i + 1) xs ≡ take i xs ++ x ∷ [] = take_more xs i x (omega arith) ∙ ap (λ y. take i xs ++ y ∷ []) (sym c.variable-item.is) in
     record {
-      blocks = so_far.blocks ++ added.block ∷ [];
-      each = subst (λ ys. AllZip (IsBlockAt a taken) ys (so_far.blocks ++ added.block ∷ [])) (sym more) (each_more a taken (take i xs) so_far.blocks x added.block so_far.each added.shows);
-      written = added.grown ∙ ap (λ t. t ++ block_text added.block) so_far.written ∙ flat_map_more block_text [] so_far.blocks added.block;
+      written = record {
+        blocks = so_far.blocks ++ added.block ∷ [];
+        each = subst (λ ys. AllZip (IsBlockAt a taken) ys (so_far.blocks ++ added.block ∷ [])) (sym more) (each_more a taken (take i xs) so_far.blocks x added.block so_far.each added.shows);
+        written = added.grown ∙ ap (λ t. t ++ block_text added.block) so_far.written ∙ flat_map_more block_text [] so_far.blocks added.block;
+      };
+      states = c.in_ok-add_block.ensures.states;
     }
