@@ -7,7 +7,7 @@ use std::io::Write;
 use xd_auto::{Auto, State};
 use xd_calls_lines::{Call, CallError, show_place};
 use xd_calls_programs::show_members;
-use xd_check::{MatchStates, MetMatch, Scrutinee, met_matches, scrutinees};
+use xd_scrutinees::{MatchStates, MetMatch, Scrutinee, met_matches, scrutinees};
 
 /// Of each document that the call names whether the state accepts it.
 fn show_taken(

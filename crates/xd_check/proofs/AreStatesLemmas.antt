@@ -17,12 +17,13 @@ use Rattle.xd_syntax.specs.declared.program.Param.{Param}
 use Rattle.xd_syntax.specs.May.{Scope, clause_entry, parameters_scope, Allows, MayBind, WhereTrue}
 use Rattle.xd_bind.specs.declared.tracks.Given.{Given}
 use Rattle.xd_clauses.specs.Clauses.{AreMayGivens, IsMayGiven}
-use Rattle.xd_check.specs.declared.variables.Variable.{Variable}
-use Rattle.xd_check.specs.InScope.{AcceptedBy, AreStates, ScopeStands, given_variables, parameters_in_scope, state_of}
-use Rattle.xd_check.specs.Signed.{AreParameters}
-use Rattle.xd_check.specs.Walked.{ComesTo, Grows}
+use Rattle.xd_check_steps.specs.declared.variables.Variable.{Variable}
+use Rattle.xd_check_steps.specs.InScope.{AcceptedBy, AreStates, ScopeStands, given_variables, parameters_in_scope, state_of}
+use Rattle.xd_check_steps.specs.Signed.{AreParameters}
+use Rattle.xd_check.specs.Walked.{ComesTo}
+use Rattle.xd_check_steps.specs.States.{Grows}
 use Rattle.xd_check.proofs.ClauseLemmas.{bound_stands}
-use Rattle.xd_check.proofs.GrowsLemmas.{scope_kept, states_kept}
+use Rattle.xd_check_steps.proofs.GrowsLemmas.{scope_kept, states_kept}
 
 pub states_joined : (a : Automaton) (us vs : List Variable) → AreStates a us → AreStates a vs → AreStates a (us ++ vs)
 states_joined a [] vs h k = k
@@ -62,14 +63,6 @@ clause_left vs ws us n gs m e k =
     let l : length ws ≡ length (given_variables gs) + length vs = ap length m ∙ length-append (given_variables gs) vs in
     let d : length (given_variables gs) ≡ length ws - n = omega arith in
     k ∙ ap (drop (length ws - n)) m ∙ drop_at (given_variables gs) vs (length ws - n) d
-
--- one variable more, from the last one on
-pub given_more : (gs rest : List Given) (vs : List Variable) (g : Given) → gs ≡ rest ++ g ∷ [] → given_variables gs ++ vs ≡ given_variables rest ++ record { name = g.variable; state = g.state } ∷ vs
-given_more gs rest vs g e = ap (λ hs. given_variables hs ++ vs) e ∙ go rest
-  where
-    go : (hs : List Given) → given_variables (hs ++ g ∷ []) ++ vs ≡ given_variables hs ++ record { name = g.variable; state = g.state } ∷ vs
-    go [] = refl
-    go (h ∷ hs) = ap (λ (us : List Variable). record { name = h.variable; state = h.state } ∷ us) (go hs)
 
 -- parameters in scope
 pub parameters_stand : (P : ProgramTree) (p : ProgramTable) (a : Automaton) (qs : List Param) (ss : List State) → AreParameters (names_of P) a (map (parameter p.types) qs) ss →

@@ -1,5 +1,7 @@
 -- Calls: their arguments, and what they give.
-use Rattle.std.proofs.Common.{◌≡◌, ◌↔◌, ℕ, true, List, [], ◌∷◌, ◌++◌, refl, ap, ◌∙◌, append_assoc}
+use Rattle.std.proofs.Common.{◌≡◌, ◌↔◌, ℕ, suc, zero, true, List, [], ◌∷◌, ◌++◌, refl, ap, ◌∙◌, append_assoc}
+use Rattle.std.specs.List.{AllByRecursion, slice_get}
+use Rattle.std.specs.Option.{IfSome}
 use Rattle.xd_base.specs.declared.Place.{Place}
 use Rattle.xd_doc.specs.Document.{Document}
 use Rattle.xd_auto.specs.declared.auto.State.{State}
@@ -10,9 +12,10 @@ use Rattle.xd_syntax.specs.Expression.{Expression, Called, no_argument, argument
 use Rattle.xd_syntax.specs.Program.{Parameter, ProgramTree, names_of, function_of}
 use Rattle.xd_syntax.specs.May.{Scope, May, FitsResult}
 use Rattle.xd_syntax.specs.CheckFaults.{Line, LineKind, LineWhere, Both, Misfits, LinesOf, LinesOfArguments, parameters_of, wrong_argument}
-use Rattle.xd_check.specs.declared.lines.FoundLine.{FoundLine}
-use Rattle.xd_check.specs.FoundLines.{AddsLines, told_size}
-use Rattle.xd_check.specs.Walked.{AcceptsJust, IsMisfit, IsWalked}
+use Rattle.xd_check_steps.specs.declared.lines.FoundLine.{FoundLine}
+use Rattle.xd_check_steps.specs.FoundLines.{AddsLines, told_size}
+use Rattle.xd_check_steps.specs.States.{AcceptsJust, IsMisfit}
+use Rattle.xd_check.specs.Walked.{IsWalked}
 use Rattle.xd_laws.proofs.SameScopes.{line_within}
 
 -- The lines of a misfit, where the states accept what the expression may be and what the type says.
@@ -42,3 +45,9 @@ pub walked_called : (P : ProgramTree) (S : Scope) (q : Place) (f : List ℕ) (es
     AddsLines ds (LinesOfArguments told_size P S (parameters_of (function_of P.functions f)) (arguments_of es)) old new → ((d : Document) → (accepts a d s ≡ true) ↔ FitsResult (names_of P) (function_of P.functions f) d) →
     IsWalked P S (Called q f (arguments_of es)) a ds old new s
 walked_called P S q f es a ds old new s h r = record { may = λ d p. r d; lines = h }
+
+-- what holds of all states holds of the one with this number, if there is one
+pub all_there : {X : Type 0} (P : X → Type 0) (xs : List X) (n : ℕ) → AllByRecursion P xs → IfSome (slice_get xs n) P
+all_there P [] n h = tt
+all_there P (x ∷ xs) zero h = h.0
+all_there P (x ∷ xs) (suc n) h = all_there P xs n h.1

@@ -19,14 +19,15 @@ use Rattle.xd_laws.specs.Scopes.{MayClauses}
 use Rattle.xd_syntax.specs.CheckFaults.{Line, Comes, IsLiveIn, LineWhere, LinesOf, LinesOfClauses, dead_clause, not_exhaustive}
 use Rattle.xd_laws.proofs.Unfoldings.{same_word_eq}
 use Rattle.xd_laws.proofs.OrderedBindings.{has_once, once_has}
-use Rattle.xd_check.specs.declared.lines.FoundLine.{FoundLine}
-use Rattle.xd_check.specs.declared.variables.Variable.{Variable}
+use Rattle.xd_check_steps.specs.declared.lines.FoundLine.{FoundLine}
+use Rattle.xd_check_steps.specs.declared.variables.Variable.{Variable}
 use Rattle.xd_laws.proofs.SameScopes.{line_within}
-use Rattle.xd_check.specs.FoundLines.{AddsLines, told_size}
-use Rattle.xd_check.specs.InScope.{AcceptedBy, ScopeStands, state_of}
-use Rattle.xd_check.specs.Walked.{AcceptedBySome, AcceptsJust, AreClausesWalked, ComesBehind, ComesTo, Grows, IsClauseWalked, IsWalked, LinesOfClause, with_found}
-use Rattle.xd_check.proofs.LineLists.{adds_as, adds_both}
-use Rattle.xd_check.proofs.AddsLinesLemmas.{Goes, goes_begin, goes_end, goes_more}
+use Rattle.xd_check_steps.specs.FoundLines.{AddsLines, told_size}
+use Rattle.xd_check_steps.specs.InScope.{AcceptedBy, ScopeStands, state_of}
+use Rattle.xd_check_steps.specs.States.{AcceptedBySome, AcceptsJust, Grows, with_found}
+use Rattle.xd_check.specs.Walked.{AreClausesWalked, ComesBehind, ComesTo, IsClauseWalked, IsWalked, LinesOfClause}
+use Rattle.xd_check_steps.proofs.LineLists.{adds_as, adds_both}
+use Rattle.xd_check_steps.proofs.AddsLinesLemmas.{Goes, goes_begin, goes_end, goes_more}
 
 -- the same documents come
 pub comes_like : (P : ProgramTree) (S : Scope) (e : Expression) (earlier : List PlacedTree) (C D : Document → Type 0) → ((d : Document) → D d ↔ C d) → ComesBehind P S e earlier C → ComesBehind P S e earlier D

@@ -23,16 +23,18 @@ use Rattle.xd_clauses.specs.Behind.{Remains, StandsIn}
 use Rattle.xd_clauses.specs.Clauses.{Accepted}
 use Rattle.xd_clauses.specs.declared.behind.Remaining.{Remaining}
 use Rattle.xd_clauses.specs.declared.compiled.CompiledPatterns.{CompiledPatterns}
-use Rattle.xd_check.specs.declared.lines.FoundLine.{FoundLine}
-use Rattle.xd_check.specs.declared.variables.Variable.{Variable}
-use Rattle.xd_check.specs.FoundLines.{AddsLines, told_size}
-use Rattle.xd_check.specs.InScope.{AreStates, ScopeStands}
-use Rattle.xd_check.specs.Ready.{ClauseCanBeWalked, expr_at}
-use Rattle.xd_check.specs.Walked.{AcceptedBySome, AreClausesWalked, ComesBehind, ComesTo, Grows, IsClauseWalked, with_found}
+use Rattle.xd_check_steps.specs.declared.lines.FoundLine.{FoundLine}
+use Rattle.xd_check_steps.specs.declared.variables.Variable.{Variable}
+use Rattle.xd_check_steps.specs.FoundLines.{AddsLines, told_size}
+use Rattle.xd_check_steps.specs.InScope.{AreStates, ScopeStands}
+use Rattle.xd_check_steps.specs.Walkable.{ClauseCanBeWalked, expr_at}
+use Rattle.xd_check_steps.specs.States.{AcceptedBySome, Grows, with_found}
+use Rattle.xd_check.specs.Walked.{AreClausesWalked, ComesBehind, ComesTo, IsClauseWalked}
 use Rattle.xd_check.proofs.ClauseLemmas.{AreClausesGoing, clauses_begin, clauses_end, clauses_more, comes_among, comes_like, going_on, passed}
-use Rattle.xd_check.proofs.GrowsLemmas.{grows_then, scope_kept}
+use Rattle.xd_check_steps.proofs.GrowsLemmas.{grows_then, scope_kept}
 use Rattle.xd_check.proofs.IsReadyLemmas.{found_there}
-use Rattle.xd_check.proofs.Loops.{Stays, bodies, ceiling, stays_begin, stays_more}
+use Rattle.xd_check.proofs.Loops.{Stays, stays_begin, stays_more}
+use Rattle.xd_check_steps.proofs.Ceilings.{bodies, ceiling}
 
 -- the clauses of these
 abbrev pub clauses_in : ProgramTable → List Clause → Clauses

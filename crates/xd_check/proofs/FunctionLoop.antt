@@ -8,17 +8,17 @@ use Rattle.xd_auto.specs.Automaton.{Automaton}
 use Rattle.xd_syntax.specs.Kept.{ProgramTable, function_definition, program_tree}
 use Rattle.xd_syntax.specs.FunctionRow.{FunctionRow}
 use Rattle.xd_syntax.specs.CheckFaults.{Line, LinesOfFunction, LinesOfFunctions}
-use Rattle.xd_check.specs.declared.lines.FoundLine.{FoundLine}
-use Rattle.xd_check.specs.FoundLines.{AddsLines, told_size}
+use Rattle.xd_check_steps.specs.declared.lines.FoundLine.{FoundLine}
+use Rattle.xd_check_steps.specs.FoundLines.{AddsLines, told_size}
 use Rattle.xd_syntax.specs.Program.{names_of}
 use Rattle.xd_meaning.specs.KeptFaults.{AllPaired}
-use Rattle.xd_check.specs.declared.signatures.Signature.{Signature}
-use Rattle.xd_check.specs.Signed.{IsSignature}
+use Rattle.xd_check_steps.specs.declared.signatures.Signature.{Signature}
+use Rattle.xd_check_steps.specs.Signed.{IsSignature}
 use Rattle.xd_check.specs.Ready.{AddsLinesOfFunction}
-use Rattle.xd_check.specs.Walked.{Grows}
-use Rattle.xd_check.proofs.AddsLinesLemmas.{Goes, goes_begin, goes_end, goes_more}
-use Rattle.xd_check.proofs.GrowsLemmas.{grows_none, grows_then}
-use Rattle.xd_check.proofs.LineLists.{adds_none}
+use Rattle.xd_check_steps.specs.States.{Grows}
+use Rattle.xd_check_steps.proofs.AddsLinesLemmas.{Goes, goes_begin, goes_end, goes_more}
+use Rattle.xd_check_steps.proofs.GrowsLemmas.{grows_none, grows_then}
+use Rattle.xd_check_steps.proofs.LineLists.{adds_none}
 
 -- the functions from the n-th on are still to be walked
 pub record FunctionsLoop (p : ProgramTable) (a b : Automaton) (ds es : List Document) (old new : List FoundLine) (n : ℕ) : Type 0 where

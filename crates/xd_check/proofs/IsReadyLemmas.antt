@@ -11,17 +11,18 @@ use Rattle.xd_syntax.specs.Tree.{Definitions}
 use Rattle.xd_syntax.specs.May.{FitsResult}
 use Rattle.xd_syntax.specs.CheckFaults.{parameters_of}
 use Rattle.xd_syntax.specs.Program.{FunctionDefinition}
-use Rattle.xd_check.specs.declared.signatures.Signature.{Signature}
-use Rattle.xd_check.specs.Signed.{AreParameters, IsSignature, IsSignatureOf}
+use Rattle.xd_check_steps.specs.declared.signatures.Signature.{Signature}
+use Rattle.xd_check_steps.specs.Signed.{AreParameters, IsSignature, IsSignatureOf}
 use Rattle.xd_syntax.specs.Kept.{program_tree}
 use Rattle.xd_check.specs.declared.checker.Checker.{Checker}
-use Rattle.xd_check.specs.declared.variables.Variable.{Variable}
-use Rattle.xd_check.specs.InScope.{AreStates}
+use Rattle.xd_check_steps.specs.declared.variables.Variable.{Variable}
+use Rattle.xd_check_steps.specs.InScope.{AreStates}
 use Rattle.xd_clauses.specs.declared.compiled.CompiledPatterns.{CompiledPatterns}
-use Rattle.xd_check.specs.Ready.{IsReady, ServesOn}
-use Rattle.xd_check.specs.Walked.{Grows, with_found}
-use Rattle.xd_check.proofs.GrowsLemmas.{states_kept}
-use Rattle.xd_check.proofs.IsSignatureLemmas.{signatures_kept}
+use Rattle.xd_check.specs.Ready.{IsReady}
+use Rattle.xd_check_steps.specs.Clauses.{ServesOn}
+use Rattle.xd_check_steps.specs.States.{Grows, with_found}
+use Rattle.xd_check_steps.proofs.GrowsLemmas.{states_kept}
+use Rattle.xd_check_steps.proofs.IsSignatureLemmas.{signatures_kept}
 
 pub serves_kept : (a b : Automaton) (m : CompiledPatterns) → Extends a b → ServesOn a m → ServesOn b m
 serves_kept a b m g h c x = h c (extends_then a b c g x)

@@ -1,5 +1,6 @@
 -- Loops over the parts of a sequence, over arguments and over clauses.
-use Rattle.std.proofs.Common.{◌≡◌, ℕ, suc, zero, ◌+◌, ◌<◌, ◌≤◌, max, arith, List, [], ◌∷◌, ◌++◌, map, length, get_or, drop, Some, None, refl, ap, sym, subst, ◌∙◌, append-nil, append_assoc}
+use Rattle.xd_check_steps.proofs.Ceilings.{ceiling}
+use Rattle.std.proofs.Common.{◌≡◌, ℕ, suc, zero, ◌+◌, ◌<◌, ◌≤◌, arith, List, [], ◌∷◌, ◌++◌, map, length, get_or, drop, Some, None, refl, ap, sym, subst, ◌∙◌, append-nil, append_assoc}
 use Rattle.std.specs.List.{AllByRecursion, slice_get}
 use Rattle.std.proofs.lemmas.List.{drop_more}
 use Rattle.xd_doc.specs.Document.{Document}
@@ -16,39 +17,21 @@ use Rattle.xd_syntax.specs.Kept.{ProgramTable, program_tree}
 use Rattle.xd_syntax.specs.May.{Scope, May}
 use Rattle.xd_syntax.specs.CheckFaults.{Line, LineWhere, Both, LinesOf, LinesOfArguments, wrong_argument}
 use Rattle.xd_syntax.specs.declared.exprs.ExprId.{ExprId}
-use Rattle.xd_check.specs.declared.lines.FoundLine.{FoundLine}
-use Rattle.xd_check.specs.declared.variables.Variable.{Variable}
-use Rattle.xd_check.specs.FoundLines.{AddsLines, told_size}
-use Rattle.xd_check.specs.InScope.{AreStates, ScopeStands}
-use Rattle.xd_check.specs.Ready.{CanBeWalked, expr_at}
-use Rattle.xd_check.specs.Signed.{AreParameters, IsTypeState}
-use Rattle.xd_check.specs.Walked.{AcceptsJust, ArePartsWalked, Grows, IsMisfit, IsWalked, LinesOfArgument, LinesOfParts}
+use Rattle.xd_check_steps.specs.declared.lines.FoundLine.{FoundLine}
+use Rattle.xd_check_steps.specs.declared.variables.Variable.{Variable}
+use Rattle.xd_check_steps.specs.FoundLines.{AddsLines, told_size}
+use Rattle.xd_check_steps.specs.InScope.{AreStates, ScopeStands}
+use Rattle.xd_check_steps.specs.Walkable.{CanBeWalked, expr_at}
+use Rattle.xd_check_steps.specs.Signed.{AreParameters, IsTypeState}
+use Rattle.xd_check_steps.specs.States.{AcceptsJust, Grows, IsMisfit}
+use Rattle.xd_check.specs.Walked.{ArePartsWalked, IsWalked, LinesOfArgument, LinesOfParts}
 use Rattle.xd_check.proofs.Arguments.{argument_more, argument_step, misfit_lines, no_arguments}
-use Rattle.xd_check.proofs.AddsLinesLemmas.{Goes, goes_begin, goes_end, goes_more}
-use Rattle.xd_check.proofs.GrowsLemmas.{grows_none, grows_then, scope_kept}
-use Rattle.xd_check.proofs.LineLists.{adds_both, adds_none}
-use Rattle.xd_check.proofs.IsSignatureLemmas.{parameters_kept}
+use Rattle.xd_check_steps.proofs.AddsLinesLemmas.{Goes, goes_begin, goes_end, goes_more}
+use Rattle.xd_check_steps.proofs.GrowsLemmas.{grows_none, grows_then, scope_kept}
+use Rattle.xd_check_steps.proofs.LineLists.{adds_both, adds_none}
+use Rattle.xd_check_steps.proofs.IsSignatureLemmas.{parameters_kept}
 use Rattle.xd_check.proofs.Walks.{pairs_kept, pairs_push}
 use Rattle.xd_meaning.specs.KeptFaults.{AllPaired}
-
--- one more than the greatest number
-abbrev pub ceiling : List ℕ → ℕ
-ceiling [] = 0
-ceiling (i ∷ is) = max (i + 1) (ceiling is)
-
-pub ceiling_within : (n : ℕ) (is : List ℕ) → AllByRecursion (λ i. i < n) is → ceiling is ≤ n
-ceiling_within n [] a = omega arith
-ceiling_within n (i ∷ is) a = let r = ceiling_within n is a.1 in let s : i < n = a.0 in omega arith
-
-pub ceiling_again : (n : ℕ) (ps qs : List ExprId) → ps ≡ qs → AllByRecursion (λ i. i < n) (expr_numbers qs) → ceiling (expr_numbers ps) ≤ n
-ceiling_again n ps qs e a = ceiling_within n (expr_numbers ps) (subst (λ xs. AllByRecursion (λ i. i < n) (expr_numbers xs)) (sym e) a)
-
-abbrev pub bodies : List (ℕ × ℕ) → List ℕ
-bodies cs = map (λ (c : ℕ × ℕ). c.1) cs
-
-pub bodies_below : (n : ℕ) (cs : List (ℕ × ℕ)) → AllByRecursion (λ (c : ℕ × ℕ). c.1 < n) cs → AllByRecursion (λ i. i < n) (bodies cs)
-bodies_below n [] a = tt
-bodies_below n (c ∷ cs) a = (a.0, bodies_below n cs a.1)
 
 -- expressions with a state for each, and others that are still to come
 pub record ArePartsGoing (P : ProgramTree) (S : Scope) (all left : List Expression) (a : Automaton) (ds : List Document) (old new : List FoundLine) (ss : List State) : Type 0 where

@@ -7,9 +7,9 @@ use Rattle.xd_syntax.specs.Program.{ProgramTree}
 use Rattle.xd_syntax.specs.declared.fault.Fault.{Fault}
 use Rattle.xd_meaning.specs.KeptFaults.{AllPaired, AreFaultsOf}
 use Rattle.xd_meaning.specs.KeptLines.{IsFaultOf}
-use Rattle.xd_check.specs.declared.lines.FoundLine.{FoundLine}
-use Rattle.xd_check.specs.FoundLines.{AddsLines, FindingBelongs, LinesBelong, found_precedes, lines_of, told_size}
-use Rattle.xd_check.proofs.Ranks.{found_in_order}
+use Rattle.xd_check_steps.specs.declared.lines.FoundLine.{FoundLine}
+use Rattle.xd_check_steps.specs.FoundLines.{AddsLines, FindingBelongs, LinesBelong, found_precedes, lines_of, told_size}
+use Rattle.xd_check_steps.proofs.Ranks.{found_in_order}
 
 put_belongs : (ds : List Document) (l : FoundLine) (ms : List FoundLine) → FindingBelongs ds l.finding → LinesBelong ds ms → LinesBelong ds (put_in found_precedes l ms)
 put_belongs ds l [] b h = (b, tt)

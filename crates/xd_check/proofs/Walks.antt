@@ -12,15 +12,16 @@ use Rattle.xd_syntax.specs.Expression.{Expression, Nothing, Quoted, Variable, Ta
 use Rattle.xd_syntax.specs.Program.{ProgramTree}
 use Rattle.xd_syntax.specs.May.{Scope, May, IsTagged}
 use Rattle.xd_syntax.specs.CheckFaults.{Line, LinesOf}
-use Rattle.xd_check.specs.FoundLines.{told_size}
+use Rattle.xd_check_steps.specs.FoundLines.{told_size}
 use Rattle.xd_meaning.specs.KeptFaults.{AllPaired}
 use Rattle.xd_laws.proofs.BoundVariables.{proper_joined}
-use Rattle.xd_check.specs.declared.lines.FoundLine.{FoundLine}
-use Rattle.xd_check.specs.declared.variables.Variable as V
-use Rattle.xd_check.specs.InScope.{AcceptedBy, ScopeStands, state_of}
-use Rattle.xd_check.specs.Walked.{AcceptedInTurn, AcceptsJust, ArePartsWalked, Grows, IsWalked, LinesOfParts}
-use Rattle.xd_check.proofs.LineLists.{adds_as, adds_none}
-use Rattle.xd_check.proofs.GrowsLemmas.{just_kept}
+use Rattle.xd_check_steps.specs.declared.lines.FoundLine.{FoundLine}
+use Rattle.xd_check_steps.specs.declared.variables.Variable as V
+use Rattle.xd_check_steps.specs.InScope.{AcceptedBy, ScopeStands, state_of}
+use Rattle.xd_check_steps.specs.States.{AcceptedInTurn, AcceptsJust, Grows}
+use Rattle.xd_check.specs.Walked.{ArePartsWalked, IsWalked, LinesOfParts}
+use Rattle.xd_check_steps.proofs.LineLists.{adds_as, adds_none}
+use Rattle.xd_check_steps.proofs.GrowsLemmas.{just_kept}
 
 pub walked_nothing : (P : ProgramTree) (S : Scope) (q : Place) (a : Automaton) (ds : List Document) (ls : List FoundLine) (s : State) → ((d : Document) → (accepts a d s ≡ true) ↔ (d ≡ empty)) →
     IsWalked P S (Nothing q) a ds ls ls s

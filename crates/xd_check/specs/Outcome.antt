@@ -7,7 +7,7 @@ use Rattle.xd_syntax.specs.CheckFaults.{Line, AreLines, AreLinesBy, faults_among
 use Rattle.xd_syntax.specs.Kept.{ProgramTable, AddsTypes, program_tree}
 use Rattle.xd_meaning.specs.KeptFaults.{AreFaultsOf, AreWarningsOf}
 use Rattle.xd_syntax.specs.Program.{ProgramTree}
-use Rattle.xd_check.specs.declared.lines.Told.{Told}
+use Rattle.xd_check_steps.specs.declared.lines.Told.{Told}
 use Rattle.xd_check.specs.declared.outcome.CheckOutcome.{CheckOutcome}
 use Rattle.xd_check.specs.declared.outcome.CheckOutcome.TheVariants.{Accepted, Refused}
 

@@ -1,11 +1,11 @@
 -- What the walk of an expression gives: a state for what the expression may be, and its lines.
-use Rattle.std.specs.Prelude.{◌≡◌, true, ◌↔◌, ◌⊎◌, List, [], ◌∷◌, ◌++◌, Option, Some, None}
+use Rattle.xd_check_steps.specs.States.{AcceptsJust, IsMisfit}
+use Rattle.std.specs.Prelude.{◌≡◌, true, ◌↔◌, ◌⊎◌, List, [], ◌∷◌, Option, Some, None}
 use Rattle.xd_base.specs.declared.Place.{Place}
-use Rattle.xd_doc.specs.Document.{Document, empty, is_proper}
+use Rattle.xd_doc.specs.Document.{Document, is_proper}
 use Rattle.xd_auto.specs.declared.auto.State.{State}
-use Rattle.xd_auto.specs.Automaton.{Automaton, Extends, KeepsAccepting, accepts}
+use Rattle.xd_auto.specs.Automaton.{Automaton}
 use Rattle.xd_syntax.specs.Placed.{PlacedTree, place_of, unplaced}
-use Rattle.xd_syntax.specs.Fits.{Split}
 use Rattle.xd_syntax.specs.Ways.{Takes}
 use Rattle.xd_syntax.specs.Expression.{Expression, Clauses}
 use Rattle.xd_syntax.specs.Program.{ProgramTree, names_of}
@@ -13,32 +13,13 @@ use Rattle.xd_syntax.specs.May.{Scope, May, NoneTakes, clause_entry}
 use Rattle.xd_laws.specs.Scopes.{MayClauses}
 use Rattle.xd_syntax.specs.CheckFaults.{Line, Both, LineWhere, LinesOf, LinesOfClauses, IsLiveIn, dead_clause, wrong_argument}
 use Rattle.xd_meaning.specs.KeptFaults.{AllPaired}
-use Rattle.xd_check.specs.FoundLines.{AddsLines, told_size}
-use Rattle.xd_check.specs.InScope.{AcceptedBy}
-use Rattle.xd_check.specs.declared.lines.FoundLine.{FoundLine}
-
--- old states stay, with what they accept
-pub record Grows (old new : Automaton) : Type 0 where
-  pub extends : Extends old new
-  pub keeps : KeepsAccepting old new
-
--- the state accepts exactly the proper documents that meet the fact
-abbrev pub AcceptsJust : Automaton → State → (Document → Type 0) → Type 0
-AcceptsJust a s A = (d : Document) → is_proper d ≡ true → (accepts a d s ≡ true) ↔ A d
+use Rattle.xd_check_steps.specs.FoundLines.{AddsLines, told_size}
+use Rattle.xd_check_steps.specs.InScope.{AcceptedBy}
+use Rattle.xd_check_steps.specs.declared.lines.FoundLine.{FoundLine}
 
 pub record IsWalked (P : ProgramTree) (S : Scope) (e : Expression) (a : Automaton) (ds : List Document) (old new : List FoundLine) (s : State) : Type 0 where
   pub may : AcceptsJust a s (May P S e)
   pub lines : AddsLines ds (LinesOf told_size P S e) old new
-
--- a document that the first state accepts, then one that the next accepts, and so on
-abbrev pub AcceptedInTurn : Automaton → List State → Document → Type 0
-AcceptedInTurn a [] d = d ≡ empty
-AcceptedInTurn a (s ∷ ss) d = Split (λ x. accepts a x s ≡ true) (AcceptedInTurn a ss) d
-
--- one of the states accepts the document
-abbrev pub AcceptedBySome : Automaton → List State → Document → Type 0
-AcceptedBySome a [] d = ⊥
-AcceptedBySome a (s ∷ ss) d = (accepts a d s ≡ true) ⊎ AcceptedBySome a ss d
 
 -- the lines of expressions, one after the other
 abbrev pub LinesOfParts : ProgramTree → Scope → List Expression → List Line → Type 0
@@ -76,16 +57,7 @@ pub record AreClausesWalked (P : ProgramTree) (S : Scope) (p : Place) (e : Expre
   pub may : AcceptsJust a s (MayClauses P S e [] cs)
   pub lines : AddsLines ds (LinesOfClauses told_size P S p e [] cs) old new
 
--- the first state accepts the document, and the second doesn't
-abbrev pub IsMisfit : Automaton → State → State → Document → Type 0
-IsMisfit a s t d = (accepts a d s ≡ true) × (accepts a d t ≡ true → ⊥)
-
 -- the line of an argument at a place, where its parameter has a state and it may be a misfit
 abbrev pub LinesOfArgument : Automaton → Place → State → Option State → List Line → Type 0
 LinesOfArgument a p s None ls = ls ≡ []
 LinesOfArgument a p s (Some t) ls = LineWhere told_size p wrong_argument (IsMisfit a s t) ls
-
--- the states with the one that was found, if there is one
-abbrev pub with_found : List State → Option State → List State
-with_found ss None = ss
-with_found ss (Some s) = ss ++ s ∷ []

@@ -13,21 +13,19 @@ ghost use Rattle.xd_syntax.specs.CheckFaults.{LineWhere, LinesOfFunction, LinesO
 ghost use Rattle.xd_syntax.specs.Program.{names_of};
 ghost use Rattle.xd_patterns.specs.Compiler.{Serves};
 ghost use Rattle.xd_clauses.specs.Compiled.{ArePatterns};
-ghost use Rattle.xd_check.specs.FoundLines.{AddsLines, told_size};
-ghost use Rattle.xd_check.specs.InScope.{parameters_in_scope};
-ghost use Rattle.xd_check.specs.Known.{IsKnown};
-ghost use Rattle.xd_check.specs.Ready.{ServesOn};
-ghost use Rattle.xd_check.specs.Signed.{AreSignatures};
+ghost use Rattle.xd_check_steps.specs.FoundLines.{AddsLines, told_size};
+ghost use Rattle.xd_check_steps.specs.InScope.{parameters_in_scope};
+ghost use Rattle.xd_check_steps.specs.Known.{IsKnown};
+ghost use Rattle.xd_check_steps.specs.Clauses.{ServesOn};
+ghost use Rattle.xd_check_steps.specs.Signed.{AreSignatures};
 
-use crate::collect::patterns_of;
-use crate::known::Known;
-use crate::lines::{Finding, FoundLine};
-use crate::signatures::{Signature, Signatures, declared_types};
-use crate::states::misfit;
-use crate::variables::{Variable, Variables};
 use std::alloc::Global;
 use xd_auto::{Auto, State};
 use xd_base::Place;
+use xd_check_steps::{
+    Finding, Findings, FoundLine, Signature, Signatures, Variable, Variables, declared_types,
+    misfit, patterns_of,
+};
 use xd_clauses::CompiledPatterns;
 use xd_doc::{NoMemory, Store};
 use xd_pattern_runs::laws::programs_are_linear;
@@ -39,7 +37,7 @@ use xd_syntax::{ExprId, Function, Param, PatternId};
 /// The program, what compiles its patterns, and its clauses' patterns and its functions' declared
 /// types as states of an automaton.
 #[derive(Drop)]
-pub(crate) struct Checker {
+pub struct Checker {
     pub alloc: Global,
     pub sound: SoundProgram,
     pub compiler: PatternCompiler,
@@ -48,12 +46,13 @@ pub(crate) struct Checker {
 }
 
 impl Checker {
-    ghost use Rattle.xd_check.specs.Ready.{AddsLinesOfFunction, CanBeWalked, IsReady, expr_at};
-    ghost use Rattle.xd_check.specs.Signed.{IsSignatureOfRow};
-    ghost use Rattle.xd_check.specs.Walked.{Grows, IsMisfit};
+    ghost use Rattle.xd_check.specs.Ready.{AddsLinesOfFunction, IsReady};
+    ghost use Rattle.xd_check_steps.specs.Walkable.{CanBeWalked, expr_at};
+    ghost use Rattle.xd_check_steps.specs.Signed.{IsSignatureOfRow};
+    ghost use Rattle.xd_check_steps.specs.States.{Grows, IsMisfit};
 
     /// The states of declared types and of the clauses' patterns are added to the automaton.
-    pub(crate) fn new(alloc: Global, sound: SoundProgram, auto: &mut Auto) -> Result<Self, NoMemory>
+    pub fn new(alloc: Global, sound: SoundProgram, auto: &mut Auto) -> Result<Self, NoMemory>
         ensures ready { IfOk result (λ made. IsReady made auto.new) }
         ensures adds { IfOk result (λ made. AddsTypes sound made.sound) }
         ensures same { IfOk result (λ made. program_tree made.sound ≡ program_tree sound) }
@@ -97,18 +96,17 @@ impl Checker {
     pub(crate) fn in_functions(
         &self,
         auto: &mut Auto,
-        known: &mut Known,
-        lines: &mut Vec<FoundLine>,
+        findings: &mut Findings,
         store: &mut Store,
     ) -> Result<(), NoMemory>
         requires ready { IsReady self.now auto.old }
-        requires known { IsKnown auto.old store.old known.old }
-        ensures lines { OnOk result (AddsLines store.new (LinesOfFunctions told_size (program_tree self.now.sound) (program_tree self.now.sound).functions) lines.old.items lines.new.items) }
+        requires known { IsKnown auto.old store.old findings.old.known }
+        ensures lines { OnOk result (AddsLines store.new (LinesOfFunctions told_size (program_tree self.now.sound) (program_tree self.now.sound).functions) findings.old.lines.items findings.new.lines.items) }
         ensures keeps { Keeps store.old store.new }
     {
         let functions = self.sound.program().functions();
         for number in 0..functions.len() {
-            self.in_function(number, auto, known, lines, store)?;
+            self.in_function(number, auto, findings, store)?;
         }
         Ok(())
     }
@@ -118,22 +116,21 @@ impl Checker {
         &self,
         number: usize,
         auto: &mut Auto,
-        known: &mut Known,
-        lines: &mut Vec<FoundLine>,
+        findings: &mut Findings,
         store: &mut Store,
     ) -> Result<(), NoMemory>
         requires ready { IsReady self.now auto.old }
         requires number { number < length self.now.sound.functions }
-        requires known { IsKnown auto.old store.old known.old }
-        ensures lines { OnOk result (AddsLinesOfFunction self.now.sound number store.new lines.old.items lines.new.items) }
+        requires known { IsKnown auto.old store.old findings.old.known }
+        ensures lines { OnOk result (AddsLinesOfFunction self.now.sound number store.new findings.old.lines.items findings.new.lines.items) }
         ensures grows { OnOk result (Grows auto.old auto.new) }
-        ensures known { OnOk result (IsKnown auto.new store.new known.new) }
+        ensures known { OnOk result (IsKnown auto.new store.new findings.new.known) }
         ensures keeps { Keeps store.old store.new }
     {
         programs_are_linear();
         let function = &self.sound.program().functions()[number];
         let signature = &self.signatures.rows()[number];
-        self.in_body(function, signature, auto, known, lines, store)?;
+        self.in_body(function, signature, auto, findings, store)?;
         Ok(())
     }
 
@@ -143,23 +140,22 @@ impl Checker {
         function: &Function,
         signature: &Signature,
         auto: &mut Auto,
-        known: &mut Known,
-        lines: &mut Vec<FoundLine>,
+        findings: &mut Findings,
         store: &mut Store,
     ) -> Result<(), NoMemory>
         requires ready { IsReady self.now auto.old }
         requires body { CanBeWalked self.now.sound function.now.body.at }
         requires signature { IsSignatureOfRow self.now.sound auto.old function.now signature.now }
-        requires known { IsKnown auto.old store.old known.old }
-        ensures lines { OnOk result (AddsLines store.new (LinesOfFunction told_size (program_tree self.now.sound) (function_definition self.now.sound function.now)) lines.old.items lines.new.items) }
+        requires known { IsKnown auto.old store.old findings.old.known }
+        ensures lines { OnOk result (AddsLines store.new (LinesOfFunction told_size (program_tree self.now.sound) (function_definition self.now.sound function.now)) findings.old.lines.items findings.new.lines.items) }
         ensures grows { OnOk result (Grows auto.old auto.new) }
-        ensures known { OnOk result (IsKnown auto.new store.new known.new) }
+        ensures known { OnOk result (IsKnown auto.new store.new findings.new.known) }
         ensures keeps { Keeps store.old store.new }
     {
         let mut variables = parameters(self.alloc, function.params(), &signature.parameters)?;
         let body = function.body();
-        let state = self.in_expression(body, &mut variables, auto, known, lines, store)?;
-        self.see_result(body, state, signature.declared, auto, known, lines, store)?;
+        let state = self.in_expression(body, &mut variables, auto, findings, store)?;
+        self.see_result(body, state, signature.declared, auto, findings, store)?;
         Ok(())
     }
 
@@ -170,20 +166,26 @@ impl Checker {
         state: State,
         wanted: State,
         auto: &Auto,
-        known: &mut Known,
-        lines: &mut Vec<FoundLine>,
+        findings: &mut Findings,
         store: &mut Store,
     ) -> Result<(), NoMemory>
         requires body { IsExpr self.now.sound.exprs body }
         requires state { IsState auto.now state }
         requires wanted { IsState auto.now wanted }
-        requires known { IsKnown auto.now store.old known.old }
-        ensures lines { OnOk result (AddsLines store.new (LineWhere told_size (place_of_expression (expr_at self.now.sound body.at)) wrong_result (IsMisfit auto.now state wanted)) lines.old.items lines.new.items) }
-        ensures known { OnOk result (IsKnown auto.now store.new known.new) }
+        requires known { IsKnown auto.now store.old findings.old.known }
+        ensures lines { OnOk result (AddsLines store.new (LineWhere told_size (place_of_expression (expr_at self.now.sound body.at)) wrong_result (IsMisfit auto.now state wanted)) findings.old.lines.items findings.new.lines.items) }
+        ensures known { OnOk result (IsKnown auto.now store.new findings.new.known) }
         ensures keeps { Keeps store.old store.new }
     {
-        if let Some(document) = misfit(self.alloc, auto, known, state, wanted, store)? {
-            lines.push(FoundLine {
+        if let Some(document) = misfit(
+            self.alloc,
+            auto,
+            &mut findings.known,
+            state,
+            wanted,
+            store,
+        )? {
+            findings.lines.push(FoundLine {
                 place: self.place_of(body),
                 finding: Finding::Result(document),
             })?;
@@ -215,11 +217,7 @@ fn compile(
 }
 
 /// The parameters of a function in scope, the first one as the newest.
-pub(crate) fn parameters(
-    alloc: Global,
-    params: &[Param],
-    states: &[State],
-) -> Result<Variables, NoMemory>
+pub fn parameters(alloc: Global, params: &[Param], states: &[State]) -> Result<Variables, NoMemory>
     requires { length params.now ≡ length states.now }
     ensures { IfOk result (λ variables. variables ≡ parameters_in_scope params.now states.now) }
 {

@@ -21,46 +21,54 @@ ghost use Rattle.xd_syntax.specs.Exprs.{IsExpr, clause_numbers, expr_numbers};
 ghost use Rattle.xd_points.specs.Meaning.{ServePoints};
 ghost use Rattle.xd_clauses.specs.Clauses.{Accepted};
 ghost use Rattle.xd_clauses.specs.Compiled.{IsNumbered};
-ghost use Rattle.xd_check.specs.FoundLines.{AddsLines, told_size};
-ghost use Rattle.xd_check.specs.InScope.{AreStates, ScopeStands};
-ghost use Rattle.xd_check.specs.Known.{IsKnown};
-ghost use Rattle.xd_check.specs.Signed.{AreParameters};
-ghost use Rattle.xd_check.specs.Ready.{CanBeWalked, ClauseCanBeWalked, IsCompiledMatch, IsReady, expr_at};
-ghost use Rattle.xd_check.specs.Walked.{AreClausesWalked, ArePartsWalked, ComesBehind, ComesTo, Grows, IsClauseWalked, IsWalked, LinesOfArgument};
+ghost use Rattle.xd_check_steps.specs.FoundLines.{AddsLines, told_size};
+ghost use Rattle.xd_check_steps.specs.InScope.{AreStates, ScopeStands};
+ghost use Rattle.xd_check_steps.specs.Known.{IsKnown};
+ghost use Rattle.xd_check_steps.specs.Signed.{AreParameters};
+ghost use Rattle.xd_check_steps.specs.Walkable.{CanBeWalked, ClauseCanBeWalked, expr_at};
+ghost use Rattle.xd_check_steps.specs.Clauses.{IsCompiledMatch};
+ghost use Rattle.xd_check.specs.Ready.{IsReady};
+ghost use Rattle.xd_check.specs.Walked.{AreClausesWalked, ArePartsWalked, ComesBehind, ComesTo, IsClauseWalked, IsWalked, LinesOfArgument};
+ghost use Rattle.xd_check_steps.specs.States.{Grows};
 
 use crate::checker::Checker;
-use crate::clauses::{CompiledMatch, MatchPatterns, bring_in, pass_found, see_uncovered};
-use crate::known::Known;
-use crate::lines::{Finding, FoundLine};
-use crate::states::{join_states, misfit, text_state, unite_states, variable_state};
-use crate::variables::Variables;
 use xd_auto::{Auto, State};
-use xd_base::Place;
-use xd_clauses::{NumberedPattern, Remaining};
+use xd_check_steps::{
+    CompiledClause, CompiledMatch, Finding, Findings, FoundLine, MatchClauses, MatchPatterns,
+    Variables, bring_in, join_states, misfit, pass_found, see_uncovered, text_state, unite_states,
+    variable_state,
+};
+use xd_clauses::Remaining;
 use xd_doc::{Label, NoMemory, Store};
-use xd_syntax::{Clause, ExprForm, ExprId};
+use xd_syntax::{ExprForm, ExprId};
+
+/// The state of the type of the parameter of this number, if there is one.
+fn parameter_state(parameters: &[State], number: usize) -> Option<State>
+    ensures { result ≡ slice_get parameters.now number }
+{
+    parameters.get(number).copied()
+}
 
 impl Checker {
     /// A state that accepts what the expression may be. Its lines are added to the others.
     #[cycle(expressions)]
-    pub(crate) fn in_expression(
+    pub fn in_expression(
         &self,
         id: ExprId,
         variables: &mut Variables,
         auto: &mut Auto,
-        known: &mut Known,
-        lines: &mut Vec<FoundLine>,
+        findings: &mut Findings,
         store: &mut Store,
     ) -> Result<State, NoMemory>
         requires ready { IsReady self.now auto.old }
         requires expression { CanBeWalked self.now.sound id.at }
         requires variables { AreStates auto.old variables.old }
-        requires known { IsKnown auto.old store.old known.old }
+        requires known { IsKnown auto.old store.old findings.old.known }
         ensures belongs { IfOk result (IsState auto.new) }
-        ensures walked { IfOk result (λ state. (S : Scope) → ScopeStands (program_tree self.now.sound) S auto.old variables.old → IsWalked (program_tree self.now.sound) S (expr_at self.now.sound id.at) auto.new store.new lines.old.items lines.new.items state) }
+        ensures walked { IfOk result (λ state. (S : Scope) → ScopeStands (program_tree self.now.sound) S auto.old variables.old → IsWalked (program_tree self.now.sound) S (expr_at self.now.sound id.at) auto.new store.new findings.old.lines.items findings.new.lines.items state) }
         ensures variables { OnOk result (variables.new ≡ variables.old) }
         ensures grows { OnOk result (Grows auto.old auto.new) }
-        ensures known { OnOk result (IsKnown auto.new store.new known.new) }
+        ensures known { OnOk result (IsKnown auto.new store.new findings.new.known) }
         ensures keeps { Keeps store.old store.new }
     {
         let node = self.sound.program().exprs().node(id);
@@ -69,20 +77,21 @@ impl Checker {
             ExprForm::Text(text) => Ok(text_state(self.alloc, text, auto)?),
             ExprForm::Var(word) => Ok(variable_state(variables, word, auto)?),
             ExprForm::Elem(label, content) => {
-                let inside = self.in_expression(*content, variables, auto, known, lines, store)?;
+                let inside = self.in_expression(*content, variables, auto, findings, store)?;
                 Ok(auto.wrap(label, inside)?)
             }
             ExprForm::Seq(parts) => {
-                let states = self.in_parts(parts, variables, auto, known, lines, store)?;
+                let states = self.in_parts(parts, variables, auto, findings, store)?;
                 Ok(join_states(states, auto)?)
             }
             ExprForm::Call(word, arguments) => {
-                Ok(self.in_call(word, arguments, variables, auto, known, lines, store)?)
+                Ok(self.in_call(word, arguments, variables, auto, findings, store)?)
             }
             ExprForm::Match(scrutinee, clauses) => {
                 let place = node.place();
-                let value = self.in_expression(*scrutinee, variables, auto, known, lines, store)?;
-                Ok(self.in_clauses(place, clauses, value, variables, auto, known, lines, store)?)
+                let value = self.in_expression(*scrutinee, variables, auto, findings, store)?;
+                let matched = MatchClauses { place, clauses };
+                Ok(self.in_clauses(matched, value, variables, auto, findings, store)?)
             }
         }
     }
@@ -94,24 +103,23 @@ impl Checker {
         parts: &[ExprId],
         variables: &mut Variables,
         auto: &mut Auto,
-        known: &mut Known,
-        lines: &mut Vec<FoundLine>,
+        findings: &mut Findings,
         store: &mut Store,
     ) -> Result<Vec<State>, NoMemory>
         requires ready { IsReady self.now auto.old }
         requires parts { AllByRecursion (CanBeWalked self.now.sound) (expr_numbers parts.now) }
         requires variables { AreStates auto.old variables.old }
-        requires known { IsKnown auto.old store.old known.old }
+        requires known { IsKnown auto.old store.old findings.old.known }
         ensures belong { IfOk result (λ states. AllByRecursion (IsState auto.new) states.items) }
-        ensures walked { IfOk result (λ states. (S : Scope) → ScopeStands (program_tree self.now.sound) S auto.old variables.old → ArePartsWalked (program_tree self.now.sound) S (map (expr_at self.now.sound) (expr_numbers parts.now)) auto.new store.new lines.old.items lines.new.items states.items) }
+        ensures walked { IfOk result (λ states. (S : Scope) → ScopeStands (program_tree self.now.sound) S auto.old variables.old → ArePartsWalked (program_tree self.now.sound) S (map (expr_at self.now.sound) (expr_numbers parts.now)) auto.new store.new findings.old.lines.items findings.new.lines.items states.items) }
         ensures variables { OnOk result (variables.new ≡ variables.old) }
         ensures grows { OnOk result (Grows auto.old auto.new) }
-        ensures known { OnOk result (IsKnown auto.new store.new known.new) }
+        ensures known { OnOk result (IsKnown auto.new store.new findings.new.known) }
         ensures keeps { Keeps store.old store.new }
     {
         let mut states = Vec::new(self.alloc);
         for part in parts {
-            let state = self.in_expression(*part, variables, auto, known, lines, store)?;
+            let state = self.in_expression(*part, variables, auto, findings, store)?;
             states.push(state)?;
         }
         Ok(states)
@@ -126,30 +134,29 @@ impl Checker {
         arguments: &[ExprId],
         variables: &mut Variables,
         auto: &mut Auto,
-        known: &mut Known,
-        lines: &mut Vec<FoundLine>,
+        findings: &mut Findings,
         store: &mut Store,
     ) -> Result<State, NoMemory>
         requires ready { IsReady self.now auto.old }
         requires arguments { AllByRecursion (CanBeWalked self.now.sound) (expr_numbers arguments.now) }
         requires variables { AreStates auto.old variables.old }
-        requires known { IsKnown auto.old store.old known.old }
+        requires known { IsKnown auto.old store.old findings.old.known }
         ensures belongs { IfOk result (IsState auto.new) }
         ensures result { IfOk result (λ state. (d : Document) → (accepts auto.new d state ≡ true) ↔ FitsResult (names_of (program_tree self.now.sound)) (function_of (program_tree self.now.sound).functions word.now) d) }
-        ensures lines { OnOk result ((S : Scope) → ScopeStands (program_tree self.now.sound) S auto.old variables.old → AddsLines store.new (LinesOfArguments told_size (program_tree self.now.sound) S (parameters_of (function_of (program_tree self.now.sound).functions word.now)) (arguments_of (map (expr_at self.now.sound) (expr_numbers arguments.now)))) lines.old.items lines.new.items) }
+        ensures lines { OnOk result ((S : Scope) → ScopeStands (program_tree self.now.sound) S auto.old variables.old → AddsLines store.new (LinesOfArguments told_size (program_tree self.now.sound) S (parameters_of (function_of (program_tree self.now.sound).functions word.now)) (arguments_of (map (expr_at self.now.sound) (expr_numbers arguments.now)))) findings.old.lines.items findings.new.lines.items) }
         ensures variables { OnOk result (variables.new ≡ variables.old) }
         ensures grows { OnOk result (Grows auto.old auto.new) }
-        ensures known { OnOk result (IsKnown auto.new store.new known.new) }
+        ensures known { OnOk result (IsKnown auto.new store.new findings.new.known) }
         ensures keeps { Keeps store.old store.new }
     {
         match self.signatures.find(word) {
             Some(signature) => {
                 let parameters = &signature.parameters;
-                self.in_arguments(parameters, arguments, variables, auto, known, lines, store)?;
+                self.in_arguments(parameters, arguments, variables, auto, findings, store)?;
                 Ok(signature.declared)
             }
             None => {
-                self.in_arguments(&[], arguments, variables, auto, known, lines, store)?;
+                self.in_arguments(&[], arguments, variables, auto, findings, store)?;
                 Ok(auto.add_state(false)?)
             }
         }
@@ -163,56 +170,59 @@ impl Checker {
         arguments: &[ExprId],
         variables: &mut Variables,
         auto: &mut Auto,
-        known: &mut Known,
-        lines: &mut Vec<FoundLine>,
+        findings: &mut Findings,
         store: &mut Store,
     ) -> Result<(), NoMemory>
         requires ready { IsReady self.now auto.old }
         requires arguments { AllByRecursion (CanBeWalked self.now.sound) (expr_numbers arguments.now) }
         requires parameters { AllByRecursion (IsState auto.old) parameters.now }
         requires variables { AreStates auto.old variables.old }
-        requires known { IsKnown auto.old store.old known.old }
-        ensures lines { OnOk result ((S : Scope) (qs : List Parameter) → ScopeStands (program_tree self.now.sound) S auto.old variables.old → AreParameters (names_of (program_tree self.now.sound)) auto.old qs parameters.now → AddsLines store.new (LinesOfArguments told_size (program_tree self.now.sound) S qs (arguments_of (map (expr_at self.now.sound) (expr_numbers arguments.now)))) lines.old.items lines.new.items) }
+        requires known { IsKnown auto.old store.old findings.old.known }
+        ensures lines { OnOk result ((S : Scope) (qs : List Parameter) → ScopeStands (program_tree self.now.sound) S auto.old variables.old → AreParameters (names_of (program_tree self.now.sound)) auto.old qs parameters.now → AddsLines store.new (LinesOfArguments told_size (program_tree self.now.sound) S qs (arguments_of (map (expr_at self.now.sound) (expr_numbers arguments.now)))) findings.old.lines.items findings.new.lines.items) }
         ensures variables { OnOk result (variables.new ≡ variables.old) }
         ensures grows { OnOk result (Grows auto.old auto.new) }
-        ensures known { OnOk result (IsKnown auto.new store.new known.new) }
+        ensures known { OnOk result (IsKnown auto.new store.new findings.new.known) }
         ensures keeps { Keeps store.old store.new }
     {
         for (number, argument) in arguments.iter().enumerate() {
-            let state = self.in_expression(*argument, variables, auto, known, lines, store)?;
-            self.see_argument(
-                *argument, state, parameters, number, auto, known, lines, store,
-            )?;
+            let state = self.in_expression(*argument, variables, auto, findings, store)?;
+            let wanted = parameter_state(parameters, number);
+            self.see_argument(*argument, state, wanted, auto, findings, store)?;
         }
         Ok(())
     }
 
-    /// The line of the argument of this number where it may be what its parameter's type doesn't
-    /// have.
+    /// The line of an argument where it may be what its parameter's type, with this state, doesn't
+    /// have. An argument without a parameter has none.
     fn see_argument(
         &self,
         argument: ExprId,
         state: State,
-        parameters: &[State],
-        number: usize,
+        wanted: Option<State>,
         auto: &Auto,
-        known: &mut Known,
-        lines: &mut Vec<FoundLine>,
+        findings: &mut Findings,
         store: &mut Store,
     ) -> Result<(), NoMemory>
         requires argument { IsExpr self.now.sound.exprs argument }
         requires state { IsState auto.now state }
-        requires parameters { AllByRecursion (IsState auto.now) parameters.now }
-        requires known { IsKnown auto.now store.old known.old }
-        ensures lines { OnOk result (AddsLines store.new (LinesOfArgument auto.now (place_of_expression (expr_at self.now.sound argument.at)) state (slice_get parameters.now number)) lines.old.items lines.new.items) }
-        ensures known { OnOk result (IsKnown auto.now store.new known.new) }
+        requires wanted { IfSome wanted (IsState auto.now) }
+        requires known { IsKnown auto.now store.old findings.old.known }
+        ensures lines { OnOk result (AddsLines store.new (LinesOfArgument auto.now (place_of_expression (expr_at self.now.sound argument.at)) state wanted) findings.old.lines.items findings.new.lines.items) }
+        ensures known { OnOk result (IsKnown auto.now store.new findings.new.known) }
         ensures keeps { Keeps store.old store.new }
     {
-        if number >= parameters.len() {
+        let Some(wanted) = wanted else {
             return Ok(());
-        }
-        if let Some(document) = misfit(self.alloc, auto, known, state, parameters[number], store)? {
-            lines.push(FoundLine {
+        };
+        if let Some(document) = misfit(
+            self.alloc,
+            auto,
+            &mut findings.known,
+            state,
+            wanted,
+            store,
+        )? {
+            findings.lines.push(FoundLine {
                 place: self.place_of(argument),
                 finding: Finding::Argument(document),
             })?;
@@ -224,25 +234,23 @@ impl Checker {
     #[cycle(expressions)]
     fn in_clauses(
         &self,
-        place: Place,
-        clauses: &[Clause],
+        matched: MatchClauses<'_>,
         scrutinee: State,
         variables: &mut Variables,
         auto: &mut Auto,
-        known: &mut Known,
-        lines: &mut Vec<FoundLine>,
+        findings: &mut Findings,
         store: &mut Store,
     ) -> Result<State, NoMemory>
         requires ready { IsReady self.now auto.old }
-        requires clauses { AllByRecursion (ClauseCanBeWalked self.now.sound) (clause_numbers clauses.now) }
+        requires clauses { AllByRecursion (ClauseCanBeWalked self.now.sound) (clause_numbers matched.clauses.now) }
         requires scrutinee { IsState auto.old scrutinee }
         requires variables { AreStates auto.old variables.old }
-        requires known { IsKnown auto.old store.old known.old }
+        requires known { IsKnown auto.old store.old findings.old.known }
         ensures belongs { IfOk result (IsState auto.new) }
-        ensures walked { IfOk result (λ state. (S : Scope) (e : Expression) → ScopeStands (program_tree self.now.sound) S auto.old variables.old → ComesBehind (program_tree self.now.sound) S e [] (Accepted auto.old scrutinee) → AreClausesWalked (program_tree self.now.sound) S place e (clauses_of (placed_at self.now.sound.patterns) (expr_at self.now.sound) (clause_numbers clauses.now)) auto.new store.new lines.old.items lines.new.items state) }
+        ensures walked { IfOk result (λ state. (S : Scope) (e : Expression) → ScopeStands (program_tree self.now.sound) S auto.old variables.old → ComesBehind (program_tree self.now.sound) S e [] (Accepted auto.old scrutinee) → AreClausesWalked (program_tree self.now.sound) S matched.entry.place e (clauses_of (placed_at self.now.sound.patterns) (expr_at self.now.sound) (clause_numbers matched.entry.clauses.now)) auto.new store.new findings.old.lines.items findings.new.lines.items state) }
         ensures variables { OnOk result (variables.new ≡ variables.old) }
         ensures grows { OnOk result (Grows auto.old auto.new) }
-        ensures known { OnOk result (IsKnown auto.new store.new known.new) }
+        ensures known { OnOk result (IsKnown auto.new store.new findings.new.known) }
         ensures keeps { Keeps store.old store.new }
     {
         let own = MatchPatterns::new(
@@ -250,15 +258,15 @@ impl Checker {
             &self.patterns,
             &self.compiler,
             &self.sound,
-            clauses,
+            matched.clauses,
         )?;
         let compiled = CompiledMatch {
-            place,
-            clauses,
+            place: matched.place,
+            clauses: matched.clauses,
             numbers: own.numbers(),
             patterns: own.among(&self.patterns),
         };
-        self.in_match(compiled, scrutinee, variables, auto, known, lines, store)
+        self.in_match(compiled, scrutinee, variables, auto, findings, store)
     }
 
     /// The same where the patterns of the clauses are compiled.
@@ -269,8 +277,7 @@ impl Checker {
         scrutinee: State,
         variables: &mut Variables,
         auto: &mut Auto,
-        known: &mut Known,
-        lines: &mut Vec<FoundLine>,
+        findings: &mut Findings,
         store: &mut Store,
     ) -> Result<State, NoMemory>
         requires ready { IsReady self.now auto.old }
@@ -278,12 +285,12 @@ impl Checker {
         requires clauses { AllByRecursion (ClauseCanBeWalked self.now.sound) (clause_numbers compiled.clauses.now) }
         requires scrutinee { IsState auto.old scrutinee }
         requires variables { AreStates auto.old variables.old }
-        requires known { IsKnown auto.old store.old known.old }
+        requires known { IsKnown auto.old store.old findings.old.known }
         ensures belongs { IfOk result (IsState auto.new) }
-        ensures walked { IfOk result (λ state. (S : Scope) (e : Expression) → ScopeStands (program_tree self.now.sound) S auto.old variables.old → ComesBehind (program_tree self.now.sound) S e [] (Accepted auto.old scrutinee) → AreClausesWalked (program_tree self.now.sound) S compiled.entry.place e (clauses_of (placed_at self.now.sound.patterns) (expr_at self.now.sound) (clause_numbers compiled.entry.clauses.now)) auto.new store.new lines.old.items lines.new.items state) }
+        ensures walked { IfOk result (λ state. (S : Scope) (e : Expression) → ScopeStands (program_tree self.now.sound) S auto.old variables.old → ComesBehind (program_tree self.now.sound) S e [] (Accepted auto.old scrutinee) → AreClausesWalked (program_tree self.now.sound) S compiled.entry.place e (clauses_of (placed_at self.now.sound.patterns) (expr_at self.now.sound) (clause_numbers compiled.entry.clauses.now)) auto.new store.new findings.old.lines.items findings.new.lines.items state) }
         ensures variables { OnOk result (variables.new ≡ variables.old) }
         ensures grows { OnOk result (Grows auto.old auto.new) }
-        ensures known { OnOk result (IsKnown auto.new store.new known.new) }
+        ensures known { OnOk result (IsKnown auto.new store.new findings.new.known) }
         ensures keeps { Keeps store.old store.new }
     {
         let clauses = compiled.clauses;
@@ -293,13 +300,15 @@ impl Checker {
         for (number, clause) in clauses.iter().enumerate() {
             let pattern = patterns.pattern(compiled.numbers[number]);
             let (coming, arriving) = remaining.coming_to(self.alloc, auto, pattern)?;
-            let found = self.in_clause(
-                *clause, pattern, arriving, variables, auto, known, lines, store,
-            )?;
+            let clause = CompiledClause {
+                clause: *clause,
+                pattern,
+            };
+            let found = self.in_clause(clause, arriving, variables, auto, findings, store)?;
             remaining = pass_found(pattern, found, coming, &mut states)?;
         }
         let left = remaining.left_over(self.alloc, auto, patterns)?;
-        see_uncovered(self.alloc, compiled.place, auto, left, known, lines, store)?;
+        see_uncovered(self.alloc, compiled.place, auto, left, findings, store)?;
         Ok(unite_states(states, auto)?)
     }
 
@@ -307,41 +316,41 @@ impl Checker {
     #[cycle(expressions)]
     fn in_clause(
         &self,
-        clause: Clause,
-        pattern: NumberedPattern<'_>,
+        clause: CompiledClause<'_>,
         arriving: State,
         variables: &mut Variables,
         auto: &mut Auto,
-        known: &mut Known,
-        lines: &mut Vec<FoundLine>,
+        findings: &mut Findings,
         store: &mut Store,
     ) -> Result<Option<State>, NoMemory>
         requires ready { IsReady self.now auto.old }
-        requires clause { ClauseCanBeWalked self.now.sound (clause.pattern.at, clause.body.at) }
-        requires pattern { IsNumbered (names_of (program_tree self.now.sound)) (tree_at self.now.sound.patterns clause.pattern.at) pattern.patterns.now pattern.number }
-        requires points { ServePoints auto.old pattern.patterns.now.states }
+        requires clause { ClauseCanBeWalked self.now.sound (clause.clause.pattern.at, clause.clause.body.at) }
+        requires pattern { IsNumbered (names_of (program_tree self.now.sound)) (tree_at self.now.sound.patterns clause.clause.pattern.at) clause.pattern.patterns.now clause.pattern.number }
+        requires points { ServePoints auto.old clause.pattern.patterns.now.states }
         requires arriving { IsState auto.old arriving }
         requires variables { AreStates auto.old variables.old }
-        requires known { IsKnown auto.old store.old known.old }
+        requires known { IsKnown auto.old store.old findings.old.known }
         ensures belongs { IfOk result (λ found. IfSome found (IsState auto.new)) }
-        ensures walked { IfOk result (λ found. (S : Scope) (e : Expression) (earlier : List PlacedTree) → ScopeStands (program_tree self.now.sound) S auto.old variables.old → ComesTo (program_tree self.now.sound) S e earlier (placed_at self.now.sound.patterns clause.pattern.at) (Accepted auto.old arriving) → IsClauseWalked (program_tree self.now.sound) S e earlier (placed_at self.now.sound.patterns clause.pattern.at) (expr_at self.now.sound clause.body.at) auto.new store.new lines.old.items lines.new.items found) }
+        ensures walked { IfOk result (λ found. (S : Scope) (e : Expression) (earlier : List PlacedTree) → ScopeStands (program_tree self.now.sound) S auto.old variables.old → ComesTo (program_tree self.now.sound) S e earlier (placed_at self.now.sound.patterns clause.entry.clause.pattern.at) (Accepted auto.old arriving) → IsClauseWalked (program_tree self.now.sound) S e earlier (placed_at self.now.sound.patterns clause.entry.clause.pattern.at) (expr_at self.now.sound clause.entry.clause.body.at) auto.new store.new findings.old.lines.items findings.new.lines.items found) }
         ensures variables { OnOk result (variables.new ≡ variables.old) }
         ensures grows { OnOk result (Grows auto.old auto.new) }
-        ensures known { OnOk result (IsKnown auto.new store.new known.new) }
+        ensures known { OnOk result (IsKnown auto.new store.new findings.new.known) }
         ensures keeps { Keeps store.old store.new }
     {
-        let inhabitants = &mut known.inhabitants;
-        let found = pattern.bindings(self.alloc, auto, arriving, inhabitants, store)?;
+        let inhabitants = &mut findings.known.inhabitants;
+        let found = clause
+            .pattern
+            .bindings(self.alloc, auto, arriving, inhabitants, store)?;
         let Some(givens) = found else {
-            lines.push(FoundLine {
-                place: self.pattern_place(clause.pattern),
+            findings.lines.push(FoundLine {
+                place: self.pattern_place(clause.clause.pattern),
                 finding: Finding::DeadClause,
             })?;
             return Ok(None);
         };
         let before = variables.len();
         bring_in(givens, variables)?;
-        let state = self.in_expression(clause.body, variables, auto, known, lines, store)?;
+        let state = self.in_expression(clause.clause.body, variables, auto, findings, store)?;
         variables.truncate(before);
         Ok(Some(state))
     }

@@ -4,15 +4,14 @@ ghost use Rattle.std.specs.Prelude.{◌≡◌, [], IfOk, List};
 ghost use Rattle.xd_doc.specs.Document.{Document};
 ghost use Rattle.xd_doc.specs.StoreNodes.{Keeps};
 ghost use Rattle.xd_syntax.specs.Kept.{AddsTypes, ProgramTable, program_tree};
-ghost use Rattle.xd_check.specs.Known.{IsKnown};
+ghost use Rattle.xd_check_steps.specs.Known.{IsKnown};
 ghost use Rattle.xd_check.specs.Outcome.{AreTold, IsOutcome};
 ghost use Rattle.xd_check.specs.Ready.{IsReady};
 
 use crate::checker::Checker;
-use crate::known::Known;
-use crate::lines::{FoundLine, Told, sort_lines, tell};
 use std::alloc::Global;
 use xd_auto::Auto;
+use xd_check_steps::{Findings, Told, sort_lines, tell};
 use xd_doc::{NoMemory, Store};
 use xd_sound::{Checked, SoundProgram};
 use xd_syntax::{Fault, Warning};
@@ -90,27 +89,25 @@ fn told_by(
     ensures told { IfOk result (AreTold (program_tree checker.now.sound) store.new) }
     ensures keeps { Keeps store.old store.new }
 {
-    let mut lines = Vec::new(alloc);
-    let mut known = Known::new(alloc, auto, store);
-    tell_all(checker, auto, &mut known, &mut lines, store)
+    let mut findings = Findings::new(alloc, auto, store);
+    tell_all(checker, auto, &mut findings, store)
 }
 
 /// The same where no line was found yet.
 fn tell_all(
     checker: &Checker,
     auto: &mut Auto,
-    known: &mut Known,
-    lines: &mut Vec<FoundLine>,
+    findings: &mut Findings,
     store: &mut Store,
 ) -> Result<Told, NoMemory>
     requires ready { IsReady checker.now auto.old }
-    requires known { IsKnown auto.old store.old known.old }
-    requires lines { lines.old.items ≡ [] }
+    requires known { IsKnown auto.old store.old findings.old.known }
+    requires lines { findings.old.lines.items ≡ [] }
     ensures told { IfOk result (AreTold (program_tree checker.now.sound) store.new) }
     ensures keeps { Keeps store.old store.new }
 {
-    checker.in_functions(auto, known, lines, store)?;
-    sort_lines(lines)?;
-    let told = tell(checker.alloc, lines)?;
+    checker.in_functions(auto, findings, store)?;
+    sort_lines(&mut findings.lines)?;
+    let told = tell(checker.alloc, &findings.lines)?;
     Ok(told)
 }

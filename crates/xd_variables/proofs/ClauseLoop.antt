@@ -17,12 +17,13 @@ use Rattle.xd_clauses.specs.Behind.{Remains, StandsIn}
 use Rattle.xd_clauses.specs.Clauses.{Accepted}
 use Rattle.xd_clauses.specs.declared.behind.Remaining.{Remaining}
 use Rattle.xd_clauses.specs.declared.compiled.CompiledPatterns.{CompiledPatterns}
-use Rattle.xd_check.specs.Ready.{ClauseCanBeWalked}
-use Rattle.xd_check.specs.Walked.{ComesBehind, ComesTo, Grows}
+use Rattle.xd_check_steps.specs.Walkable.{ClauseCanBeWalked}
+use Rattle.xd_check.specs.Walked.{ComesBehind, ComesTo}
+use Rattle.xd_check_steps.specs.States.{Grows}
 use Rattle.xd_check.proofs.ClauseLemmas.{comes_among, comes_like}
 use Rattle.xd_check.proofs.ClauseLoop.{AreAhead, ahead_begin, ahead_more, clause_front, clauses_in, still_behind}
-use Rattle.xd_check.proofs.GrowsLemmas.{grows_none, grows_then}
-use Rattle.xd_check.proofs.MetClauses.{passed_live}
+use Rattle.xd_check_steps.proofs.GrowsLemmas.{grows_none, grows_then}
+use Rattle.xd_scrutinees.proofs.MetClauses.{passed_live}
 use Rattle.xd_variables.specs.Read.{AddsVariables, IsClauseRead}
 use Rattle.xd_variables.specs.Seen.{Reading, SeenVariable, variables_of_clause, variables_of_clauses}
 use Rattle.xd_variables.specs.declared.variables.BoundVariable.{BoundVariable}

@@ -21,8 +21,9 @@ use Rattle.xd_clauses.specs.Cases.{placed_pattern}
 use Rattle.xd_clauses.specs.Clauses.{AreGivensOf, IsGivenOf}
 use Rattle.xd_clauses.specs.Compiled.{IsNumbered}
 use Rattle.xd_clauses.specs.declared.compiled.CompiledPatterns.{CompiledPatterns}
-use Rattle.xd_check.specs.Scrutinees.{TellsLive}
-use Rattle.xd_check.specs.Walked.{ComesTo, Grows}
+use Rattle.xd_scrutinees.specs.Scrutinees.{TellsLive}
+use Rattle.xd_check.specs.Walked.{ComesTo}
+use Rattle.xd_check_steps.specs.States.{Grows}
 use Rattle.xd_check.proofs.ClauseLemmas.{bind_from, bind_to, live_from, live_to}
 use Rattle.xd_check.proofs.IsReadyLemmas.{serves_kept}
 use Rattle.xd_prefer.proofs.PrefersLemmas.{nothing_preferred, prefers_same}

@@ -11,9 +11,10 @@ use Rattle.xd_syntax.specs.Program.{ProgramTree, names_of}
 use Rattle.xd_bind.specs.declared.tracks.Given.{Given}
 use Rattle.xd_patterns.specs.Compiler.{Serves}
 use Rattle.xd_clauses.specs.Compiled.{ArePatterns}
-use Rattle.xd_check.specs.Ready.{CanBeWalked, ServesOn}
-use Rattle.xd_check.specs.Scrutinees.{TellsLive}
-use Rattle.xd_check.specs.declared.matches.MetMatch.{MetMatch}
+use Rattle.xd_check_steps.specs.Walkable.{CanBeWalked}
+use Rattle.xd_check_steps.specs.Clauses.{ServesOn}
+use Rattle.xd_scrutinees.specs.Scrutinees.{TellsLive}
+use Rattle.xd_scrutinees.specs.declared.matches.MetMatch.{MetMatch}
 use Rattle.xd_variables.specs.Bound.{IsBound}
 use Rattle.xd_variables.specs.Seen.{Reading, SeenVariable, variables_of_clause}
 use Rattle.xd_variables.specs.declared.reader.Reader.{Reader}

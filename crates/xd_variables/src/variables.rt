@@ -9,8 +9,8 @@ use crate::reader::{Found, Reader};
 use std::alloc::Global;
 use xd_auto::{Auto, State};
 use xd_base::Place;
-use xd_check::{MatchStates, met_matches};
 use xd_doc::{Label, NoMemory};
+use xd_scrutinees::{MatchStates, met_matches};
 use xd_sound::Checked;
 
 /// Which matches count for what a pattern gives its variables.

@@ -8,8 +8,8 @@ use Rattle.xd_syntax.specs.declared.types.TypeId.{TypeId}
 use Rattle.xd_meaning.specs.KeptFaults.{AllPaired}
 use Rattle.xd_patterns.specs.CompiledProgram.{AcceptsType, type_states}
 use Rattle.xd_clauses.proofs.NumberedLemmas.{paired_length}
-use Rattle.xd_check.specs.Signed.{types_declared}
-use Rattle.xd_check.proofs.AreTypeStatesLemmas.{all_declared_there}
+use Rattle.xd_check_steps.specs.Signed.{types_declared}
+use Rattle.xd_check_steps.proofs.AreTypeStatesLemmas.{all_declared_there}
 use Rattle.xd_check.proofs.checker.compile.Goals as goal
 
 pub with_types-requires : goal.with_types-requires

@@ -2,8 +2,8 @@ use Rattle.std.proofs.Common.{◌≡◌, ℕ, ◌-◌, ◌<◌, arith, List, ◌
 use Rattle.std.proofs.lemmas.List.{drop_all, get_or_default}
 use Rattle.xd_auto.specs.declared.auto.State.{State}
 use Rattle.xd_syntax.specs.declared.program.Param.{Param}
-use Rattle.xd_check.specs.declared.variables.Variable.{Variable}
-use Rattle.xd_check.specs.InScope.{parameters_in_scope}
+use Rattle.xd_check_steps.specs.declared.variables.Variable.{Variable}
+use Rattle.xd_check_steps.specs.InScope.{parameters_in_scope}
 use Rattle.xd_check.proofs.AreStatesLemmas.{parameter_front}
 use Rattle.xd_check.proofs.checker.parameters.Goals as goal
 

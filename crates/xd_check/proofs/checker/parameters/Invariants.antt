@@ -1,5 +1,5 @@
 use Rattle.std.proofs.Common.{◌≡◌, drop}
-use Rattle.xd_check.specs.InScope.{parameters_in_scope}
+use Rattle.xd_check_steps.specs.InScope.{parameters_in_scope}
 use Rattle.xd_check.proofs.checker.parameters.Given as goal
 
 abbrev pub invariant-loop-number : goal.invariant-loop-number

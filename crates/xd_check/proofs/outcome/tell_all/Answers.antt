@@ -2,8 +2,8 @@ use Rattle.std.proofs.lemmas.Result.{IfOk-from_err}
 use Rattle.std.proofs.Common.{List, ◌∙◌}
 use Rattle.xd_doc.specs.Document.{Document}
 use Rattle.xd_syntax.specs.Kept.{program_tree}
-use Rattle.xd_check.specs.declared.lines.FoundLine.{FoundLine}
-use Rattle.xd_check.specs.FoundLines.{lines_of}
+use Rattle.xd_check_steps.specs.declared.lines.FoundLine.{FoundLine}
+use Rattle.xd_check_steps.specs.FoundLines.{lines_of}
 use Rattle.xd_check.proofs.Outcomes.{lines_sorted}
 use Rattle.xd_check.proofs.outcome.tell_all.Goals as goal
 
@@ -16,7 +16,7 @@ returns c =
       told =
           let ds : List Document = c.in_functions.new.store in
           let ls : List FoundLine = c.deref.result.now in
-          let s = lines_sorted (program_tree c.args.checker.now.sound) ds c.args.lines.now.items c.in_functions.new.lines.items ls c.requires.lines c.in_ok-in_functions.ensures.lines (c.deref.ensures.value ∙ c.in_ok-sort_lines.ensures) in
+          let s = lines_sorted (program_tree c.args.checker.now.sound) ds c.args.findings.now.lines.items c.in_functions.new.findings.lines.items ls c.requires.lines c.in_ok-in_functions.ensures.lines (c.deref.ensures.value ∙ c.in_ok-sort_lines.ensures) in
           (lines_of ds ls, s.lines, c.in_ok-told.ensures.faults ds s.belong, c.in_ok-told.ensures.warnings ds);
       keeps = c.in_ok-in_functions.ensures.keeps;
     }

@@ -11,6 +11,6 @@ pub tell_all-requires : goal.tell_all-requires
 tell_all-requires c =
     record {
       ready = c.requires;
-      known = c.new-known.ensures;
-      lines = c.new-lines.ensures.items;
+      known = c.new-findings.ensures.known;
+      lines = c.new-findings.ensures.lines;
     }

@@ -1,6 +1,6 @@
 use Rattle.std.proofs.Common.{rules}
 use Rattle.std.proofs.lemmas.List.Sorted.{answers_always}
-use Rattle.xd_check.proofs.ByPlace.{sorted_by_place}
+use Rattle.xd_scrutinees.proofs.ByPlace.{sorted_by_place}
 use Rattle.xd_variables.proofs.InOrder.{bound_place}
 use Rattle.xd_variables.proofs.variables.sort_variables.Goals as goal
 

@@ -1,6 +1,7 @@
 use borrow.Author.Count.{falls}
 use Rattle.std.proofs.Common.{◌≡◌, ◌↔◌, ℕ, ◌+◌, ◌-◌, ◌*◌, ◌<◌, arith, true, false, Ok, None, List, [], ◌∷◌, map, length, get_or, drop, refl, ap, sym, subst, ◌∙◌}
 use Rattle.std.specs.List.{AllByRecursion}
+use Rattle.std.specs.Option.{IfSome}
 use Rattle.std.proofs.lemmas.List.{drop_all, get_or_default}
 use Rattle.std.proofs.lemmas.Result.{IfOk-from_err}
 use Rattle.xd_base.specs.declared.Place.{Place}
@@ -13,7 +14,7 @@ use Rattle.xd_syntax.specs.Kept.{ProgramTable, program_tree}
 use Rattle.xd_syntax.specs.Placed.{PlacedTree, unplaced}
 use Rattle.xd_syntax.specs.PlacedTable.{placed_at}
 use Rattle.xd_syntax.specs.Program.{ProgramTree, function_of, names_of}
-use Rattle.xd_syntax.specs.Expression.{Clauses, Expression, Matched}
+use Rattle.xd_syntax.specs.Expression.{Clauses, Expression, Matched, place_of_expression}
 use Rattle.xd_syntax.specs.ExpressionTable.{ExprPartsBelow, ExprRow, PatternsBelong, ShapePatternsBelong, empty_shape, text_shape, var_shape, elem_shape, seq_shape, call_shape, match_shape, clauses_of}
 use Rattle.xd_syntax.specs.Exprs.{clause_numbers, expr_numbers, shape_of}
 use Rattle.xd_syntax.specs.declared.exprs.ExprId.{ExprId}
@@ -24,27 +25,31 @@ use Rattle.xd_clauses.specs.Behind.{StandsIn}
 use Rattle.xd_clauses.specs.declared.compiled.CompiledPatterns.{CompiledPatterns}
 use Rattle.xd_points.specs.Meaning.{ServePoints}
 use Rattle.xd_clauses.proofs.NumberedLemmas.{paired_length}
-use Rattle.xd_check.specs.InScope.{ScopeStands}
-use Rattle.xd_check.specs.Ready.{CanBeWalked, HasNumber, expr_at, patterns_among}
-use Rattle.xd_check.proofs.Numbered.{compiled_as, numbered_here, some_here, some_numbered}
+use Rattle.xd_check_steps.specs.InScope.{ScopeStands}
+use Rattle.xd_check_steps.specs.Walkable.{CanBeWalked, expr_at}
+use Rattle.xd_check_steps.specs.Clauses.{HasNumber, patterns_among}
+use Rattle.xd_check_steps.proofs.Numbered.{compiled_as, numbered_here, some_here, some_numbered}
 use Rattle.xd_syntax.specs.May.{FitsResult, IsLive, clause_entry}
 use Rattle.xd_syntax.specs.Tree.{Definitions}
 use Rattle.xd_syntax.specs.CheckFaults.{IsLiveIn, dead_clause, parameters_of}
 use Rattle.xd_syntax.proofs.PlacedTrees.{unplaced_at}
-use Rattle.xd_check.specs.declared.lines.Finding.TheVariants.{DeadClause}
-use Rattle.xd_check.specs.declared.variables.Variable.{Variable}
-use Rattle.xd_check.specs.Signed.{AreParameters, signature_of}
-use Rattle.xd_check.specs.Walked.{Grows, IsWalked}
+use Rattle.xd_check_steps.specs.declared.lines.Finding.TheVariants.{DeadClause}
+use Rattle.xd_check_steps.specs.declared.variables.Variable.{Variable}
+use Rattle.xd_check_steps.specs.Signed.{AreParameters, signature_of}
+use Rattle.xd_check_steps.specs.States.{Grows}
+use Rattle.xd_check.specs.Walked.{IsWalked, LinesOfArgument}
+use Rattle.xd_check_steps.specs.FoundLines.{AddsLines}
 use Rattle.xd_check.proofs.ClauseLemmas.{clause_dead, clause_live, comes_first, live_from, live_to, walked_matched}
-use Rattle.xd_check.proofs.Arguments.{walked_called}
-use Rattle.xd_check.proofs.GrowsLemmas.{grows_then, scope_kept}
-use Rattle.xd_check.proofs.IsKnownLemmas.{known_kept, known_learnt}
+use Rattle.xd_check.proofs.Arguments.{all_there, walked_called}
+use Rattle.xd_check_steps.proofs.GrowsLemmas.{grows_then, scope_kept}
+use Rattle.xd_check_steps.proofs.IsKnownLemmas.{known_kept, known_learnt}
 use Rattle.xd_check.proofs.ClauseLoop.{ClausesLoop, clause_here, clauses_loop_begin, clauses_loop_end, clauses_loop_more, stands_on}
 use Rattle.xd_check.proofs.AreStatesLemmas.{clause_left, clause_scope, clause_states, parameter_states}
-use Rattle.xd_check.proofs.Loops.{PartsLoop, argument_here, arguments_begin, arguments_end, arguments_more, bodies, bodies_below, ceiling, ceiling_again, ceiling_within, part_here, parts_begin, parts_end, parts_more}
-use Rattle.xd_check.proofs.AcceptedInTurnLemmas.{joined_none, never, new_moves}
+use Rattle.xd_check.proofs.Loops.{PartsLoop, argument_here, arguments_begin, arguments_end, arguments_more, part_here, parts_begin, parts_end, parts_more}
+use Rattle.xd_check_steps.proofs.Ceilings.{bodies, bodies_below, ceiling, ceiling_again, ceiling_within}
+use Rattle.xd_check_steps.proofs.AcceptedInTurnLemmas.{joined_none, never, new_moves}
 use Rattle.xd_check.proofs.IsReadyLemmas.{ready_kept, signed_none, signed_some, states_again}
-use Rattle.xd_check.proofs.Walkable.{expr_is, walk_arguments, walk_clauses, walk_content, walk_parts, walk_scrutinee}
+use Rattle.xd_check_steps.proofs.Walkable.{expr_is, walk_arguments, walk_clauses, walk_content, walk_parts, walk_scrutinee}
 use Rattle.xd_check.proofs.Walks.{walked_joined, walked_nothing, walked_quoted, walked_tagged, walked_variable}
 use Rattle.xd_check.proofs.checker.Checker.+expressions.Goals as goal
 
@@ -123,13 +128,13 @@ in_expression-returns-in_ok-add_state-in-Empty t c =
           let tree = expr_is p c.exprs.result.now c.args.id n.place n.form empty_shape e (c.node-node.ensures.expression p.patterns) (sym c.form.ensures ∙ ap shape_of c.in-Empty.is) in
           let s : State = c.in_ok-add_state-in-Empty.field-0 in
           let ok = c.in_ok-add_state-in-Empty.ensures.ok in
-          subst (λ x. IsWalked (program_tree p) S x c.add_state.new.self c.args.store.now c.args.lines.now.items c.args.lines.now.items s) (sym tree)
-          (walked_nothing (program_tree p) S n.place c.add_state.new.self c.args.store.now c.args.lines.now.items s (joined_none c.add_state.new.self s (new_moves c.args.auto.now c.add_state.new.self s true ok.0 ok.1)));
+          subst (λ x. IsWalked (program_tree p) S x c.add_state.new.self c.args.store.now c.args.findings.now.lines.items c.args.findings.now.lines.items s) (sym tree)
+          (walked_nothing (program_tree p) S n.place c.add_state.new.self c.args.store.now c.args.findings.now.lines.items s (joined_none c.add_state.new.self s (new_moves c.args.auto.now c.add_state.new.self s true ok.0 ok.1)));
       variables = refl;
       grows = record { extends = c.in_ok-add_state-in-Empty.ensures.extends; keeps = c.in_ok-add_state-in-Empty.ensures.keeps };
       known =
           let e = c.in_ok-add_state-in-Empty.ensures in
-          known_kept c.args.auto.now c.add_state.new.self c.args.store.now c.args.store.now c.args.known.now (record { extends = e.extends; keeps = e.keeps }) (Keeps-same c.args.store.now) c.requires.known;
+          known_kept c.args.auto.now c.add_state.new.self c.args.store.now c.args.store.now c.args.findings.now.known (record { extends = e.extends; keeps = e.keeps }) (Keeps-same c.args.store.now) c.requires.known;
       keeps = Keeps-same c.args.store.now;
     }
 
@@ -142,11 +147,11 @@ in_expression-returns-in_ok-text_state-in-Text t c =
           let e : c.exprs.result.now ≡ p.exprs = c.exprs.ensures.exprs ∙ ap (λ (q : ProgramTable). q.exprs) c.program.ensures.program in
           let n = c.node-node.result.now in
           let tree = expr_is p c.exprs.result.now c.args.id n.place n.form (text_shape c.in-Text.text) e (c.node-node.ensures.expression p.patterns) (sym c.form.ensures ∙ ap shape_of c.in-Text.is) in
-          subst (λ x. IsWalked (program_tree p) S x c.text_state.new.auto c.args.store.now c.args.lines.now.items c.args.lines.now.items c.in_ok-text_state-in-Text.field-0) (sym tree)
-          (walked_quoted (program_tree p) S n.place c.in-Text.text c.text_state.new.auto c.args.store.now c.args.lines.now.items c.in_ok-text_state-in-Text.field-0 c.in_ok-text_state-in-Text.ensures.accepts);
+          subst (λ x. IsWalked (program_tree p) S x c.text_state.new.auto c.args.store.now c.args.findings.now.lines.items c.args.findings.now.lines.items c.in_ok-text_state-in-Text.field-0) (sym tree)
+          (walked_quoted (program_tree p) S n.place c.in-Text.text c.text_state.new.auto c.args.store.now c.args.findings.now.lines.items c.in_ok-text_state-in-Text.field-0 c.in_ok-text_state-in-Text.ensures.accepts);
       variables = refl;
       grows = c.in_ok-text_state-in-Text.ensures.grows;
-      known = known_kept c.args.auto.now c.text_state.new.auto c.args.store.now c.args.store.now c.args.known.now c.in_ok-text_state-in-Text.ensures.grows (Keeps-same c.args.store.now) c.requires.known;
+      known = known_kept c.args.auto.now c.text_state.new.auto c.args.store.now c.args.store.now c.args.findings.now.known c.in_ok-text_state-in-Text.ensures.grows (Keeps-same c.args.store.now) c.requires.known;
       keeps = Keeps-same c.args.store.now;
     }
 
@@ -159,11 +164,11 @@ in_expression-returns-in_ok-variable_state-in-Var t c =
           let e : c.exprs.result.now ≡ p.exprs = c.exprs.ensures.exprs ∙ ap (λ (q : ProgramTable). q.exprs) c.program.ensures.program in
           let n = c.node-node.result.now in
           let tree = expr_is p c.exprs.result.now c.args.id n.place n.form (var_shape c.in-Var.word) e (c.node-node.ensures.expression p.patterns) (sym c.form.ensures ∙ ap shape_of c.in-Var.is) in
-          subst (λ x. IsWalked (program_tree p) S x c.variable_state.new.auto c.args.store.now c.args.lines.now.items c.args.lines.now.items c.in_ok-variable_state-in-Var.field-0) (sym tree)
-          (walked_variable (program_tree p) S n.place c.in-Var.word c.args.auto.now c.variable_state.new.auto c.args.variables.now c.args.store.now c.args.lines.now.items c.in_ok-variable_state-in-Var.field-0 stands c.in_ok-variable_state-in-Var.ensures.accepts);
+          subst (λ x. IsWalked (program_tree p) S x c.variable_state.new.auto c.args.store.now c.args.findings.now.lines.items c.args.findings.now.lines.items c.in_ok-variable_state-in-Var.field-0) (sym tree)
+          (walked_variable (program_tree p) S n.place c.in-Var.word c.args.auto.now c.variable_state.new.auto c.args.variables.now c.args.store.now c.args.findings.now.lines.items c.in_ok-variable_state-in-Var.field-0 stands c.in_ok-variable_state-in-Var.ensures.accepts);
       variables = refl;
       grows = c.in_ok-variable_state-in-Var.ensures.grows;
-      known = known_kept c.args.auto.now c.variable_state.new.auto c.args.store.now c.args.store.now c.args.known.now c.in_ok-variable_state-in-Var.ensures.grows (Keeps-same c.args.store.now) c.requires.known;
+      known = known_kept c.args.auto.now c.variable_state.new.auto c.args.store.now c.args.store.now c.args.findings.now.known c.in_ok-variable_state-in-Var.ensures.grows (Keeps-same c.args.store.now) c.requires.known;
       keeps = Keeps-same c.args.store.now;
     }
 
@@ -176,14 +181,14 @@ in_expression-returns-in_ok-wrap-in-Elem t c =
           let e : c.exprs.result.now ≡ p.exprs = c.exprs.ensures.exprs ∙ ap (λ (q : ProgramTable). q.exprs) c.program.ensures.program in
           let n = c.node-node.result.now in
           let tree = expr_is p c.exprs.result.now c.args.id n.place n.form (elem_shape c.in-Elem.label c.in-Elem.content.at) e (c.node-node.ensures.expression p.patterns) (sym c.form.ensures ∙ ap shape_of c.in-Elem.is) in
-          subst (λ x. IsWalked (program_tree p) S x c.wrap.new.self c.in_expression.new.store c.args.lines.now.items c.in_expression.new.lines.items c.in_ok-wrap-in-Elem.field-0) (sym tree)
-          (walked_tagged (program_tree p) S n.place c.in-Elem.label (expr_at p c.in-Elem.content.at) c.in_expression.new.auto c.wrap.new.self c.in_expression.new.store c.args.lines.now.items c.in_expression.new.lines.items
+          subst (λ x. IsWalked (program_tree p) S x c.wrap.new.self c.in_expression.new.store c.args.findings.now.lines.items c.in_expression.new.findings.lines.items c.in_ok-wrap-in-Elem.field-0) (sym tree)
+          (walked_tagged (program_tree p) S n.place c.in-Elem.label (expr_at p c.in-Elem.content.at) c.in_expression.new.auto c.wrap.new.self c.in_expression.new.store c.args.findings.now.lines.items c.in_expression.new.findings.lines.items
           c.in_ok-inside-in-Elem.inside c.in_ok-wrap-in-Elem.field-0 (c.in_ok-inside-in-Elem.ensures.walked S stands) c.in_ok-wrap-in-Elem.ensures.ok);
       variables = c.in_ok-inside-in-Elem.ensures.variables;
       grows = grows_then c.args.auto.now c.in_expression.new.auto c.wrap.new.self c.in_ok-inside-in-Elem.ensures.grows (record { extends = c.in_ok-wrap-in-Elem.ensures.extends; keeps = c.in_ok-wrap-in-Elem.ensures.keeps });
       known =
           let e = c.in_ok-wrap-in-Elem.ensures in
-          known_kept c.in_expression.new.auto c.wrap.new.self c.in_expression.new.store c.in_expression.new.store c.in_expression.new.known (record { extends = e.extends; keeps = e.keeps }) (Keeps-same c.in_expression.new.store)
+          known_kept c.in_expression.new.auto c.wrap.new.self c.in_expression.new.store c.in_expression.new.store c.in_expression.new.findings.known (record { extends = e.extends; keeps = e.keeps }) (Keeps-same c.in_expression.new.store)
           c.in_ok-inside-in-Elem.ensures.known;
       keeps = c.in_expression.ensures.keeps;
     }
@@ -199,12 +204,12 @@ in_expression-returns-in_ok-join_states-in-Seq t c =
           let ids : List ℕ = expr_numbers c.deref.result.now in
           let form = sym c.form.ensures ∙ ap shape_of c.in-Seq.is ∙ ap (λ (ps : List ExprId). seq_shape (expr_numbers ps)) (sym c.deref.ensures.value) in
           let tree = expr_is p c.exprs.result.now c.args.id n.place n.form (seq_shape ids) e (c.node-node.ensures.expression p.patterns) form in
-          subst (λ x. IsWalked (program_tree p) S x c.join_states.new.auto c.in_parts.new.store c.args.lines.now.items c.in_parts.new.lines.items c.in_ok-join_states-in-Seq.field-0) (sym tree)
-          (walked_joined (program_tree p) S n.place (map (expr_at p) ids) c.in_parts.new.auto c.join_states.new.auto c.in_parts.new.store c.args.lines.now.items c.in_parts.new.lines.items c.in_ok-states-in-Seq.states.items
+          subst (λ x. IsWalked (program_tree p) S x c.join_states.new.auto c.in_parts.new.store c.args.findings.now.lines.items c.in_parts.new.findings.lines.items c.in_ok-join_states-in-Seq.field-0) (sym tree)
+          (walked_joined (program_tree p) S n.place (map (expr_at p) ids) c.in_parts.new.auto c.join_states.new.auto c.in_parts.new.store c.args.findings.now.lines.items c.in_parts.new.findings.lines.items c.in_ok-states-in-Seq.states.items
           c.in_ok-join_states-in-Seq.field-0 (c.in_ok-states-in-Seq.ensures.walked S stands) c.in_ok-join_states-in-Seq.ensures.accepts);
       variables = c.in_ok-states-in-Seq.ensures.variables;
       grows = grows_then c.args.auto.now c.in_parts.new.auto c.join_states.new.auto c.in_ok-states-in-Seq.ensures.grows c.in_ok-join_states-in-Seq.ensures.grows;
-      known = known_kept c.in_parts.new.auto c.join_states.new.auto c.in_parts.new.store c.in_parts.new.store c.in_parts.new.known c.in_ok-join_states-in-Seq.ensures.grows (Keeps-same c.in_parts.new.store) c.in_ok-states-in-Seq.ensures.known;
+      known = known_kept c.in_parts.new.auto c.join_states.new.auto c.in_parts.new.store c.in_parts.new.store c.in_parts.new.findings.known c.in_ok-join_states-in-Seq.ensures.grows (Keeps-same c.in_parts.new.store) c.in_ok-states-in-Seq.ensures.known;
       keeps = c.in_parts.ensures.keeps;
     }
 
@@ -220,8 +225,8 @@ in_expression-returns-in_ok-in_call-in-Call t c =
           let form = sym c.form.ensures ∙ ap shape_of c.in-Call.is ∙ ap (λ (ps : List ExprId). call_shape c.in-Call.word (expr_numbers ps)) (sym c.deref-in-Call.ensures.value) in
           let tree = expr_is p c.exprs.result.now c.args.id n.place n.form (call_shape c.in-Call.word ids) e (c.node-node.ensures.expression p.patterns) form in
           let r = c.in_ok-in_call-in-Call.ensures in
-          subst (λ x. IsWalked (program_tree p) S x c.in_call.new.auto c.in_call.new.store c.args.lines.now.items c.in_call.new.lines.items c.in_ok-in_call-in-Call.field-0) (sym tree)
-          (walked_called (program_tree p) S n.place c.in-Call.word (map (expr_at p) ids) c.in_call.new.auto c.in_call.new.store c.args.lines.now.items c.in_call.new.lines.items c.in_ok-in_call-in-Call.field-0 (r.lines S stands) r.result);
+          subst (λ x. IsWalked (program_tree p) S x c.in_call.new.auto c.in_call.new.store c.args.findings.now.lines.items c.in_call.new.findings.lines.items c.in_ok-in_call-in-Call.field-0) (sym tree)
+          (walked_called (program_tree p) S n.place c.in-Call.word (map (expr_at p) ids) c.in_call.new.auto c.in_call.new.store c.args.findings.now.lines.items c.in_call.new.findings.lines.items c.in_ok-in_call-in-Call.field-0 (r.lines S stands) r.result);
       variables = c.in_ok-in_call-in-Call.ensures.variables;
       grows = c.in_ok-in_call-in-Call.ensures.grows;
       known = c.in_ok-in_call-in-Call.ensures.known;
@@ -231,8 +236,8 @@ in_expression-returns-in_ok-in_call-in-Call t c =
 pub in_parts-loop-part-init : goal.in_parts-loop-part-init
 in_parts-loop-part-init t c =
     record {
-      walk = subst (PartsLoop c.args.self.now.sound c.args.auto.now c.args.auto.now c.args.variables.now c.args.variables.now c.args.store.now c.args.store.now c.args.lines.now.items c.args.lines.now.items c.args.parts.now 0) (sym c.new-states.ensures.items)
-          (parts_begin c.args.self.now.sound c.args.auto.now c.args.variables.now c.args.store.now c.args.lines.now.items c.args.parts.now c.requires.parts);
+      walk = subst (PartsLoop c.args.self.now.sound c.args.auto.now c.args.auto.now c.args.variables.now c.args.variables.now c.args.store.now c.args.store.now c.args.findings.now.lines.items c.args.findings.now.lines.items c.args.parts.now 0) (sym c.new-states.ensures.items)
+          (parts_begin c.args.self.now.sound c.args.auto.now c.args.variables.now c.args.store.now c.args.findings.now.lines.items c.args.parts.now c.requires.parts);
       known = c.requires.known;
     }
 
@@ -242,7 +247,7 @@ in_parts-in_expression-requires t c =
     let st = i.stays in
     let n : ℕ = c.loop-part.part-index in
     let id : ExprId = get_or c.args.parts.now n (record { at = 0 }) in
-    let h = part_here c.args.self.now.sound c.args.auto.now c.loop-part.auto' c.args.variables.now c.loop-part.variables c.args.store.now c.loop-part.store c.args.lines.now.items c.loop-part.lines.items c.args.parts.now n c.loop-part.states.items id i
+    let h = part_here c.args.self.now.sound c.args.auto.now c.loop-part.auto' c.args.variables.now c.loop-part.variables c.args.store.now c.loop-part.store c.args.findings.now.lines.items c.loop-part.findings.lines.items c.args.parts.now n c.loop-part.states.items id i
     c.loop-part-test.true (get_or_default c.args.parts.now n (record { at = 0 }) id c.loop-part-test.true) in
     let top = h.1 in
     let fallen : 4 * id.at + 3 < t = omega arith in
@@ -255,7 +260,7 @@ in_parts-loop-part-preserved t c =
     let e = c.in_ok-state.ensures in
     record {
       walk = parts_more c.args.self.now.sound c.args.auto.now c.loop-part.auto' c.in_expression.new.auto c.args.variables.now c.loop-part.variables c.in_expression.new.variables c.args.store.now c.loop-part.store c.in_expression.new.store
-          c.args.lines.now.items c.loop-part.lines.items c.in_expression.new.lines.items c.args.parts.now n c.loop-part.states.items c.push.new.self.items id c.in_ok-state.state c.requires.variables c.loop-part.invariant.walk
+          c.args.findings.now.lines.items c.loop-part.findings.lines.items c.in_expression.new.findings.lines.items c.args.parts.now n c.loop-part.states.items c.push.new.self.items id c.in_ok-state.state c.requires.variables c.loop-part.invariant.walk
           c.loop-part-test.true (get_or_default c.args.parts.now n (record { at = 0 }) id c.loop-part-test.true) e.belongs e.walked e.variables e.grows e.keeps c.in_ok-push.ensures.items;
       known = e.known;
     }
@@ -265,7 +270,7 @@ in_parts-returns t c =
     record {
       belong = c.loop-part.invariant.walk.there;
       walked =
-          parts_end c.args.self.now.sound c.args.auto.now c.loop-part.auto' c.args.variables.now c.loop-part.variables c.args.store.now c.loop-part.store c.args.lines.now.items c.loop-part.lines.items c.args.parts.now c.loop-part.part-index
+          parts_end c.args.self.now.sound c.args.auto.now c.loop-part.auto' c.args.variables.now c.loop-part.variables c.args.store.now c.loop-part.store c.args.findings.now.lines.items c.loop-part.findings.lines.items c.args.parts.now c.loop-part.part-index
           c.loop-part.states.items (drop_all c.loop-part.part-index c.args.parts.now c.loop-part-test.false) c.loop-part.invariant.walk;
       variables = c.loop-part.invariant.walk.stays.variables;
       grows = c.loop-part.invariant.walk.stays.grows;
@@ -275,7 +280,7 @@ in_parts-returns t c =
 
 pub in_arguments-loop-number-init : goal.in_arguments-loop-number-init
 in_arguments-loop-number-init t c =
-    record { walk = arguments_begin c.args.self.now.sound c.args.auto.now c.args.variables.now c.args.store.now c.args.lines.now.items c.args.parameters.now c.args.arguments.now c.requires.arguments; known = c.requires.known }
+    record { walk = arguments_begin c.args.self.now.sound c.args.auto.now c.args.variables.now c.args.store.now c.args.findings.now.lines.items c.args.parameters.now c.args.arguments.now c.requires.arguments; known = c.requires.known }
 
 pub in_arguments-in_expression-requires : goal.in_arguments-in_expression-requires
 in_arguments-in_expression-requires t c =
@@ -283,7 +288,7 @@ in_arguments-in_expression-requires t c =
     let st = i.stays in
     let n : ℕ = c.loop-number.number in
     let id : ExprId = get_or c.args.arguments.now n (record { at = 0 }) in
-    let h = argument_here c.args.self.now.sound c.args.auto.now c.loop-number.auto' c.args.variables.now c.loop-number.variables c.args.store.now c.loop-number.store c.args.lines.now.items c.loop-number.lines.items c.args.parameters.now
+    let h = argument_here c.args.self.now.sound c.args.auto.now c.loop-number.auto' c.args.variables.now c.loop-number.variables c.args.store.now c.loop-number.store c.args.findings.now.lines.items c.loop-number.findings.lines.items c.args.parameters.now
     c.args.arguments.now n id i c.loop-number-test.true (get_or_default c.args.arguments.now n (record { at = 0 }) id c.loop-number-test.true) in
     let top = h.1 in
     let fallen : 4 * id.at + 3 < t = omega arith in
@@ -295,15 +300,16 @@ in_arguments-see_argument-requires t c =
       argument =
           let n : ℕ = c.loop-number.number in
           let id : ExprId = get_or c.args.arguments.now n (record { at = 0 }) in
-          let h = argument_here c.args.self.now.sound c.args.auto.now c.loop-number.auto' c.args.variables.now c.loop-number.variables c.args.store.now c.loop-number.store c.args.lines.now.items c.loop-number.lines.items c.args.parameters.now
+          let h = argument_here c.args.self.now.sound c.args.auto.now c.loop-number.auto' c.args.variables.now c.loop-number.variables c.args.store.now c.loop-number.store c.args.findings.now.lines.items c.loop-number.findings.lines.items c.args.parameters.now
           c.args.arguments.now n id c.loop-number.invariant.walk c.loop-number-test.true (get_or_default c.args.arguments.now n (record { at = 0 }) id c.loop-number-test.true) in
           let w = h.0 in
           w.there;
       state = c.in_ok-state.ensures.belongs;
-      parameters =
+      wanted =
           let st = c.loop-number.invariant.walk.stays in
           let g = grows_then c.args.auto.now c.loop-number.auto' c.in_expression.new.auto st.grows c.in_ok-state.ensures.grows in
-          all_as (IsState c.args.auto.now) (IsState c.in_expression.new.auto) (λ s m. (g.extends).states s m) c.args.parameters.now c.requires.parameters;
+          subst (λ o. IfSome o (IsState c.in_expression.new.auto)) (sym c.parameter_state-wanted.ensures)
+          (all_there (IsState c.in_expression.new.auto) c.args.parameters.now c.loop-number.number (all_as (IsState c.args.auto.now) (IsState c.in_expression.new.auto) (λ s m. (g.extends).states s m) c.args.parameters.now c.requires.parameters));
       known = c.in_ok-state.ensures.known;
     }
 
@@ -311,7 +317,7 @@ pub in_arguments-returns : goal.in_arguments-returns
 in_arguments-returns t c =
     record {
       lines =
-          arguments_end c.args.self.now.sound c.args.auto.now c.loop-number.auto' c.args.variables.now c.loop-number.variables c.args.store.now c.loop-number.store c.args.lines.now.items c.loop-number.lines.items c.args.parameters.now
+          arguments_end c.args.self.now.sound c.args.auto.now c.loop-number.auto' c.args.variables.now c.loop-number.variables c.args.store.now c.loop-number.store c.args.findings.now.lines.items c.loop-number.findings.lines.items c.args.parameters.now
           c.args.arguments.now c.loop-number.number (drop_all c.loop-number.number c.args.arguments.now c.loop-number-test.false) c.loop-number.invariant.walk;
       variables = c.loop-number.invariant.walk.stays.variables;
       grows = c.loop-number.invariant.walk.stays.grows;
@@ -326,8 +332,10 @@ in_arguments-loop-number-preserved t c =
     let e = c.in_ok-state.ensures in
     record {
       walk = arguments_more c.args.self.now.sound c.args.auto.now c.loop-number.auto' c.in_expression.new.auto c.args.variables.now c.loop-number.variables c.in_expression.new.variables c.args.store.now c.loop-number.store c.in_expression.new.store
-          c.see_argument.new.store c.args.lines.now.items c.loop-number.lines.items c.in_expression.new.lines.items c.see_argument.new.lines.items c.args.parameters.now c.args.arguments.now n id c.in_ok-state.state c.requires.variables
-          c.loop-number.invariant.walk c.loop-number-test.true (get_or_default c.args.arguments.now n (record { at = 0 }) id c.loop-number-test.true) e.walked e.variables e.grows e.keeps c.in_ok-see_argument.ensures.lines c.in_ok-see_argument.ensures.keeps;
+          c.see_argument.new.store c.args.findings.now.lines.items c.loop-number.findings.lines.items c.in_expression.new.findings.lines.items c.see_argument.new.findings.lines.items c.args.parameters.now c.args.arguments.now n id c.in_ok-state.state c.requires.variables
+          c.loop-number.invariant.walk c.loop-number-test.true (get_or_default c.args.arguments.now n (record { at = 0 }) id c.loop-number-test.true) e.walked e.variables e.grows e.keeps
+          (subst (λ o. AddsLines c.see_argument.new.store (LinesOfArgument c.in_expression.new.auto (place_of_expression (expr_at c.args.self.now.sound id.at)) c.in_ok-state.state o) c.in_expression.new.findings.lines.items c.see_argument.new.findings.lines.items) c.parameter_state-wanted.ensures
+          c.in_ok-see_argument.ensures.lines) c.in_ok-see_argument.ensures.keeps;
       known = c.in_ok-see_argument.ensures.known;
     }
 
@@ -377,8 +385,8 @@ in_expression-returns-in_ok-in_clauses-in-Match t c =
           let a1 = c.in_expression-in-Match.new.auto in
           let there : ScopeStands P S a1 c.in_expression-in-Match.new.variables = subst (ScopeStands P S a1) (sym v.variables) (scope_kept P S c.args.auto.now a1 v.grows c.args.variables.now c.requires.variables stands) in
           let comes = comes_first P S x a1 c.in_ok-value-in-Match.value (Accepted a1 c.in_ok-value-in-Match.value) w.may (λ d. ((λ m. m), (λ m. m))) in
-          subst (λ y. IsWalked P S y c.in_clauses.new.auto c.in_clauses.new.store c.args.lines.now.items c.in_clauses.new.lines.items c.in_ok-in_clauses-in-Match.field-0) (sym tree)
-          (walked_matched P S c.place-place.result x ks a1 c.in_clauses.new.auto c.in_expression-in-Match.new.store c.in_clauses.new.store c.args.lines.now.items c.in_expression-in-Match.new.lines.items c.in_clauses.new.lines.items
+          subst (λ y. IsWalked P S y c.in_clauses.new.auto c.in_clauses.new.store c.args.findings.now.lines.items c.in_clauses.new.findings.lines.items c.in_ok-in_clauses-in-Match.field-0) (sym tree)
+          (walked_matched P S c.place-place.result x ks a1 c.in_clauses.new.auto c.in_expression-in-Match.new.store c.in_clauses.new.store c.args.findings.now.lines.items c.in_expression-in-Match.new.findings.lines.items c.in_clauses.new.findings.lines.items
           c.in_ok-value-in-Match.value c.in_ok-in_clauses-in-Match.field-0 c.in_clauses.ensures.keeps w (c.in_ok-in_clauses-in-Match.ensures.walked S x there comes));
       variables = c.in_ok-in_clauses-in-Match.ensures.variables ∙ c.in_ok-value-in-Match.ensures.variables;
       grows = grows_then c.args.auto.now c.in_expression-in-Match.new.auto c.in_clauses.new.auto c.in_ok-value-in-Match.ensures.grows c.in_ok-in_clauses-in-Match.ensures.grows;
@@ -409,7 +417,7 @@ in_call-returns-in_ok-add_state-in-None t c =
           grows_then c.args.auto.now c.in_arguments-in-None.new.auto c.add_state.new.self c.in_ok-in_arguments-in-None.ensures.grows (record { extends = e.extends; keeps = e.keeps });
       known =
           let e = c.in_ok-add_state-in-None.ensures in
-          known_kept c.in_arguments-in-None.new.auto c.add_state.new.self c.in_arguments-in-None.new.store c.in_arguments-in-None.new.store c.in_arguments-in-None.new.known (record { extends = e.extends; keeps = e.keeps })
+          known_kept c.in_arguments-in-None.new.auto c.add_state.new.self c.in_arguments-in-None.new.store c.in_arguments-in-None.new.store c.in_arguments-in-None.new.findings.known (record { extends = e.extends; keeps = e.keeps })
           (Keeps-same c.in_arguments-in-None.new.store) c.in_ok-in_arguments-in-None.ensures.known;
       keeps = c.in_arguments-in-None.ensures.keeps;
     }
@@ -419,7 +427,7 @@ in_match-see_uncovered-requires t c =
     let f = c.in_ok-left.ensures in
     record {
       arriving = f.belongs;
-      known = known_kept c.loop-number.auto' c.left_over.new.auto c.loop-number.store c.loop-number.store c.loop-number.known (record { extends = f.extends; keeps = f.accepting }) (Keeps-same c.loop-number.store) c.loop-number.invariant.known;
+      known = known_kept c.loop-number.auto' c.left_over.new.auto c.loop-number.store c.loop-number.store c.loop-number.findings.known (record { extends = f.extends; keeps = f.accepting }) (Keeps-same c.loop-number.store) c.loop-number.invariant.known;
     }
 
 pub in_match-unite_states-requires : goal.in_match-unite_states-requires
@@ -440,11 +448,11 @@ in_clause-returns-in_default t c =
       walked = λ S e earlier stands comes.
           let p : ProgramTable = c.args.self.now.sound in
           let P : ProgramTree = program_tree p in
-          let Q : PlacedTree = placed_at p.patterns c.args.clause.pattern.at in
+          let Q : PlacedTree = placed_at p.patterns c.args.clause.clause.pattern.at in
           let C = Accepted c.args.auto.now c.args.arriving in
-          let made : IsNumbered (names_of P) (unplaced Q) c.args.pattern.patterns.now c.args.pattern.number = subst (λ T. IsNumbered (names_of P) T c.args.pattern.patterns.now c.args.pattern.number) (sym (unplaced_at p.patterns c.args.clause.pattern.at)) c.requires.pattern in
+          let made : IsNumbered (names_of P) (unplaced Q) c.args.clause.pattern.patterns.now c.args.clause.pattern.number = subst (λ T. IsNumbered (names_of P) T c.args.clause.pattern.patterns.now c.args.clause.pattern.number) (sym (unplaced_at p.patterns c.args.clause.clause.pattern.at)) c.requires.pattern in
           let dead : IsLiveIn P S e earlier Q → ⊥ = λ l. c.in_ok-found.ensures.dead (ap (λ o. Ok o) c.in_default.is) (names_of P) Q made (live_to P S e earlier C Q comes l) in
-          clause_dead P S e earlier Q (expr_at p c.args.clause.body.at) c.bindings.new.auto c.bindings.new.store c.args.lines.now.items c.push.new.self.items dead
+          clause_dead P S e earlier Q (expr_at p c.args.clause.clause.body.at) c.bindings.new.auto c.bindings.new.store c.args.findings.now.lines.items c.push.new.self.items dead
           (record {
             more = record { place = c.pattern_place.result; finding = DeadClause } ∷ [];
             grown = c.in_ok-push.ensures.items;
@@ -455,7 +463,7 @@ in_clause-returns-in_default t c =
       grows = record { extends = c.in_ok-found.ensures.extends; keeps = c.in_ok-found.ensures.accepting };
       known =
           let f = c.in_ok-found.ensures in
-          known_learnt c.args.auto.now c.bindings.new.auto c.args.store.now c.bindings.new.store c.args.known.now c.bindings.new.known (record { extends = f.extends; keeps = f.accepting }) f.keeps c.requires.known f.known;
+          known_learnt c.args.auto.now c.bindings.new.auto c.args.store.now c.bindings.new.store c.args.findings.now.known c.bindings.new.known (record { extends = f.extends; keeps = f.accepting }) f.keeps c.requires.known f.known;
       keeps = c.in_ok-found.ensures.keeps;
     }
 
@@ -463,14 +471,14 @@ pub in_clause-in_expression-requires : goal.in_clause-in_expression-requires
 in_clause-in_expression-requires t c =
     let p : ProgramTable = c.args.self.now.sound in
     let P : ProgramTree = program_tree p in
-    let Q : PlacedTree = placed_at p.patterns c.args.clause.pattern.at in
+    let Q : PlacedTree = placed_at p.patterns c.args.clause.clause.pattern.at in
     let C = Accepted c.args.auto.now c.args.arriving in
-    let made : IsNumbered (names_of P) (unplaced Q) c.args.pattern.patterns.now c.args.pattern.number = subst (λ T. IsNumbered (names_of P) T c.args.pattern.patterns.now c.args.pattern.number) (sym (unplaced_at p.patterns c.args.clause.pattern.at)) c.requires.pattern in
+    let made : IsNumbered (names_of P) (unplaced Q) c.args.clause.pattern.patterns.now c.args.clause.pattern.number = subst (λ T. IsNumbered (names_of P) T c.args.clause.pattern.patterns.now c.args.clause.pattern.number) (sym (unplaced_at p.patterns c.args.clause.clause.pattern.at)) c.requires.pattern in
     let f = c.in_ok-found.ensures in
     let grows : Grows c.args.auto.now c.bindings.new.auto = record { extends = f.extends; keeps = f.accepting } in
     let gs = c.in-Some.givens.items in
-    let bound : AreMayGivens (names_of P) C [] Q c.bindings.new.auto gs = some_holds (λ hs. (D : Definitions) (R : PlacedTree) → IsNumbered D (unplaced R) c.args.pattern.patterns.now c.args.pattern.number → AreMayGivens D C [] R c.bindings.new.auto hs.items) c.in_ok-found.found c.in-Some.givens c.in-Some.is f.bindings (names_of P) Q made in
-    let fallen : 4 * c.args.clause.body.at + 3 < t = omega arith in (
+    let bound : AreMayGivens (names_of P) C [] Q c.bindings.new.auto gs = some_holds (λ hs. (D : Definitions) (R : PlacedTree) → IsNumbered D (unplaced R) c.args.clause.pattern.patterns.now c.args.clause.pattern.number → AreMayGivens D C [] R c.bindings.new.auto hs.items) c.in_ok-found.found c.in-Some.givens c.in-Some.is f.bindings (names_of P) Q made in
+    let fallen : 4 * c.args.clause.clause.body.at + 3 < t = omega arith in (
       fallen,
       (
         ready_kept c.args.self.now c.args.auto.now c.bindings.new.auto grows c.requires.ready,
@@ -478,7 +486,7 @@ in_clause-in_expression-requires t c =
           c.requires.clause.body,
           (
             clause_states (names_of P) C Q c.args.auto.now c.bindings.new.auto c.args.variables.now c.bring_in.new.variables gs grows c.requires.variables bound c.in_ok-bring_in.ensures,
-            known_learnt c.args.auto.now c.bindings.new.auto c.args.store.now c.bindings.new.store c.args.known.now c.bindings.new.known grows f.keeps c.requires.known f.known,
+            known_learnt c.args.auto.now c.bindings.new.auto c.args.store.now c.bindings.new.store c.args.findings.now.known c.bindings.new.known grows f.keeps c.requires.known f.known,
           ),
         ),
       ),
@@ -491,16 +499,16 @@ in_clause-returns t c =
       walked = λ S e earlier stands comes.
           let p : ProgramTable = c.args.self.now.sound in
           let P : ProgramTree = program_tree p in
-          let Q : PlacedTree = placed_at p.patterns c.args.clause.pattern.at in
+          let Q : PlacedTree = placed_at p.patterns c.args.clause.clause.pattern.at in
           let C = Accepted c.args.auto.now c.args.arriving in
-          let made : IsNumbered (names_of P) (unplaced Q) c.args.pattern.patterns.now c.args.pattern.number = subst (λ T. IsNumbered (names_of P) T c.args.pattern.patterns.now c.args.pattern.number) (sym (unplaced_at p.patterns c.args.clause.pattern.at)) c.requires.pattern in
+          let made : IsNumbered (names_of P) (unplaced Q) c.args.clause.pattern.patterns.now c.args.clause.pattern.number = subst (λ T. IsNumbered (names_of P) T c.args.clause.pattern.patterns.now c.args.clause.pattern.number) (sym (unplaced_at p.patterns c.args.clause.clause.pattern.at)) c.requires.pattern in
           let f = c.in_ok-found.ensures in
           let grows : Grows c.args.auto.now c.bindings.new.auto = record { extends = f.extends; keeps = f.accepting } in
           let gs = c.in-Some.givens.items in
-          let bound : AreMayGivens (names_of P) C [] Q c.bindings.new.auto gs = some_holds (λ hs. (D : Definitions) (R : PlacedTree) → IsNumbered D (unplaced R) c.args.pattern.patterns.now c.args.pattern.number → AreMayGivens D C [] R c.bindings.new.auto hs.items) c.in_ok-found.found c.in-Some.givens c.in-Some.is f.bindings (names_of P) Q made in
-          let live : IsLiveIn P S e earlier Q = live_from P S e earlier C Q comes (some_holds (λ hs. (D : Definitions) (R : PlacedTree) → IsNumbered D (unplaced R) c.args.pattern.patterns.now c.args.pattern.number → IsLive D C [] R) c.in_ok-found.found c.in-Some.givens c.in-Some.is f.live (names_of P) Q made) in
+          let bound : AreMayGivens (names_of P) C [] Q c.bindings.new.auto gs = some_holds (λ hs. (D : Definitions) (R : PlacedTree) → IsNumbered D (unplaced R) c.args.clause.pattern.patterns.now c.args.clause.pattern.number → AreMayGivens D C [] R c.bindings.new.auto hs.items) c.in_ok-found.found c.in-Some.givens c.in-Some.is f.bindings (names_of P) Q made in
+          let live : IsLiveIn P S e earlier Q = live_from P S e earlier C Q comes (some_holds (λ hs. (D : Definitions) (R : PlacedTree) → IsNumbered D (unplaced R) c.args.clause.pattern.patterns.now c.args.clause.pattern.number → IsLive D C [] R) c.in_ok-found.found c.in-Some.givens c.in-Some.is f.live (names_of P) Q made) in
           let inside = clause_scope P S e earlier C Q comes c.args.auto.now c.bindings.new.auto c.args.variables.now c.bring_in.new.variables gs grows c.requires.variables stands bound c.in_ok-bring_in.ensures in
-          clause_live P S e earlier Q (expr_at p c.args.clause.body.at) c.in_expression.new.auto c.in_expression.new.store c.args.lines.now.items c.in_expression.new.lines.items c.in_ok-state.state live
+          clause_live P S e earlier Q (expr_at p c.args.clause.clause.body.at) c.in_expression.new.auto c.in_expression.new.store c.args.findings.now.lines.items c.in_expression.new.findings.lines.items c.in_ok-state.state live
           (c.in_ok-state.ensures.walked (clause_entry e earlier Q ∷ S) inside);
       variables =
           let same : c.in_expression.new.variables ≡ c.bring_in.new.variables = c.in_ok-state.ensures.variables in
@@ -736,12 +744,12 @@ in_clauses-in_match-requires t c =
     let p : ProgramTable = c.args.self.now.sound in
     let a = c.args.auto.now in
     let own = c.in_ok-own.own in
-    let fallen : 4 * ceiling (bodies (clause_numbers c.args.clauses.now)) + 1 < t = omega arith in (
+    let fallen : 4 * ceiling (bodies (clause_numbers c.args.matched.clauses.now)) + 1 < t = omega arith in (
       fallen,
       (
         c.requires.ready,
         (
-          compiled_as p a c.args.clauses.now (patterns_among c.args.self.now.patterns own.own) c.among.result.now own.numbers.items c.numbers.result.now c.among.ensures c.numbers.ensures (c.in_ok-own.ensures a c.requires.ready.points),
+          compiled_as p a c.args.matched.clauses.now (patterns_among c.args.self.now.patterns own.own) c.among.result.now own.numbers.items c.numbers.result.now c.among.ensures c.numbers.ensures (c.in_ok-own.ensures a c.requires.ready.points),
           (c.requires.clauses, (c.requires.scrutinee, (c.requires.variables, c.requires.known))),
         ),
       ),
@@ -759,9 +767,9 @@ in_match-loop-number-init t c =
     let m : CompiledPatterns = c.args.compiled.patterns.now in
     let made = c.in_ok-remaining.ensures in
     record {
-      walk = subst (λ ss. ClausesLoop c.args.self.now.sound m c.args.compiled.place a a c.args.variables.now c.args.variables.now c.args.store.now c.args.store.now c.args.lines.now.items c.args.lines.now.items c.args.compiled.clauses.now 0 ss c.args.scrutinee c.in_ok-remaining.remaining)
+      walk = subst (λ ss. ClausesLoop c.args.self.now.sound m c.args.compiled.place a a c.args.variables.now c.args.variables.now c.args.store.now c.args.store.now c.args.findings.now.lines.items c.args.findings.now.lines.items c.args.compiled.clauses.now 0 ss c.args.scrutinee c.in_ok-remaining.remaining)
           (sym c.new-states.ensures.items)
-          (clauses_loop_begin c.args.self.now.sound m c.args.compiled.place a c.args.variables.now c.args.store.now c.args.lines.now.items c.args.compiled.clauses.now c.args.scrutinee c.in_ok-remaining.remaining c.requires.clauses (made.stands a m c.requires.scrutinee)
+          (clauses_loop_begin c.args.self.now.sound m c.args.compiled.place a c.args.variables.now c.args.store.now c.args.findings.now.lines.items c.args.compiled.clauses.now c.args.scrutinee c.in_ok-remaining.remaining c.requires.clauses (made.stands a m c.requires.scrutinee)
           (λ d. made.remains a m d));
       known = c.requires.known;
     }
@@ -817,7 +825,7 @@ in_match-in_clause-requires t c =
                 a.belongs,
                 (
                   states_again c.args.auto.now c.coming_to.new.auto g c.args.variables.now c.loop-number.variables st.variables c.requires.variables,
-                  known_kept c.loop-number.auto' c.coming_to.new.auto c.loop-number.store c.loop-number.store c.loop-number.known one (Keeps-same c.loop-number.store) c.loop-number.invariant.known,
+                  known_kept c.loop-number.auto' c.coming_to.new.auto c.loop-number.store c.loop-number.store c.loop-number.findings.known one (Keeps-same c.loop-number.store) c.loop-number.invariant.known,
                 ),
               ),
             ),
@@ -860,12 +868,12 @@ in_match-loop-number-preserved t c =
     let Q : PlacedTree = placed_at p.patterns (k.pattern).at in
     let made : IsNumbered E (unplaced Q) m x.number = subst (λ T. IsNumbered E T m x.number) (sym (unplaced_at p.patterns (k.pattern).at))
     (numbered_here p c.args.auto.now cs c.args.compiled.patterns.now c.args.compiled.numbers.now c.requires.compiled n k m x.number c.loop-number-test.true (get_or_default cs n none k c.loop-number-test.true) is c.pattern-pattern.ensures.number) in
-    let before : ClausesLoop p m c.args.compiled.place c.args.auto.now c.loop-number.auto' c.args.variables.now c.loop-number.variables c.args.store.now c.loop-number.store c.args.lines.now.items c.loop-number.lines.items cs n c.loop-number.states.items c.args.scrutinee c.loop-number.remaining
-    = subst (λ (y : CompiledPatterns). ClausesLoop p y c.args.compiled.place c.args.auto.now c.loop-number.auto' c.args.variables.now c.loop-number.variables c.args.store.now c.loop-number.store c.args.lines.now.items c.loop-number.lines.items cs n c.loop-number.states.items c.args.scrutinee c.loop-number.remaining) (sym is) c.loop-number.invariant.walk in
+    let before : ClausesLoop p m c.args.compiled.place c.args.auto.now c.loop-number.auto' c.args.variables.now c.loop-number.variables c.args.store.now c.loop-number.store c.args.findings.now.lines.items c.loop-number.findings.lines.items cs n c.loop-number.states.items c.args.scrutinee c.loop-number.remaining
+    = subst (λ (y : CompiledPatterns). ClausesLoop p y c.args.compiled.place c.args.auto.now c.loop-number.auto' c.args.variables.now c.loop-number.variables c.args.store.now c.loop-number.store c.args.findings.now.lines.items c.loop-number.findings.lines.items cs n c.loop-number.states.items c.args.scrutinee c.loop-number.remaining) (sym is) c.loop-number.invariant.walk in
     record {
-      walk = subst (λ (y : CompiledPatterns). ClausesLoop p y c.args.compiled.place c.args.auto.now d c.args.variables.now c.in_clause.new.variables c.args.store.now c.in_clause.new.store c.args.lines.now.items c.in_clause.new.lines.items cs (n + 1) c.pass_found.new.states.items c.args.scrutinee c.in_ok-remaining-2.remaining) is
+      walk = subst (λ (y : CompiledPatterns). ClausesLoop p y c.args.compiled.place c.args.auto.now d c.args.variables.now c.in_clause.new.variables c.args.store.now c.in_clause.new.store c.args.findings.now.lines.items c.in_clause.new.findings.lines.items cs (n + 1) c.pass_found.new.states.items c.args.scrutinee c.in_ok-remaining-2.remaining) is
           (clauses_loop_more p m c.args.compiled.place c.args.auto.now c.loop-number.auto' b d c.args.variables.now c.loop-number.variables c.in_clause.new.variables c.args.store.now c.loop-number.store c.in_clause.new.store
-          c.args.lines.now.items c.loop-number.lines.items c.in_clause.new.lines.items cs n c.loop-number.states.items c.pass_found.new.states.items c.args.scrutinee c.in_ok-coming.arriving c.loop-number.remaining c.in_ok-coming.coming c.in_ok-remaining-2.remaining k c.in_ok-found.found
+          c.args.findings.now.lines.items c.loop-number.findings.lines.items c.in_clause.new.findings.lines.items cs n c.loop-number.states.items c.pass_found.new.states.items c.args.scrutinee c.in_ok-coming.arriving c.loop-number.remaining c.in_ok-coming.coming c.in_ok-remaining-2.remaining k c.in_ok-found.found
           c.requires.variables before c.loop-number-test.true (get_or_default cs n none k c.loop-number-test.true) one a.stands a.remains (a.comes E Q made) f.walked f.variables f.grows f.keeps w.states f.belongs
           (w.stands d (stands_on b d m c.in_ok-coming.coming f.grows a.stands)) (w.remains E Q made d));
       known = f.known;
@@ -888,10 +896,10 @@ in_match-returns t c =
       belongs = c.in_ok-unite_states.ensures.belongs;
       walked =
           clauses_loop_end c.args.self.now.sound c.args.compiled.patterns.now c.args.compiled.place c.args.auto.now c.loop-number.auto' c.left_over.new.auto c.unite_states.new.auto c.args.variables.now c.loop-number.variables c.args.store.now c.loop-number.store c.see_uncovered.new.store
-          c.args.lines.now.items c.loop-number.lines.items c.see_uncovered.new.lines.items c.args.compiled.clauses.now c.loop-number.number c.loop-number.states.items c.args.scrutinee c.in_ok-left.left c.in_ok-unite_states.field-0 c.loop-number.remaining
+          c.args.findings.now.lines.items c.loop-number.findings.lines.items c.see_uncovered.new.findings.lines.items c.args.compiled.clauses.now c.loop-number.number c.loop-number.states.items c.args.scrutinee c.in_ok-left.left c.in_ok-unite_states.field-0 c.loop-number.remaining
           (drop_all c.loop-number.number c.args.compiled.clauses.now c.loop-number-test.false) h.walk over left.exact c.in_ok-see_uncovered.ensures.keeps c.in_ok-see_uncovered.ensures.lines c.in_ok-unite_states.ensures.accepts;
       variables = h.walk.stays.variables;
       grows = grows_then c.args.auto.now c.loop-number.auto' c.unite_states.new.auto h.walk.stays.grows g;
-      known = known_kept c.left_over.new.auto c.unite_states.new.auto c.see_uncovered.new.store c.see_uncovered.new.store c.see_uncovered.new.known c.in_ok-unite_states.ensures.grows (Keeps-same c.see_uncovered.new.store) c.in_ok-see_uncovered.ensures.known;
+      known = known_kept c.left_over.new.auto c.unite_states.new.auto c.see_uncovered.new.store c.see_uncovered.new.store c.see_uncovered.new.findings.known c.in_ok-unite_states.ensures.grows (Keeps-same c.see_uncovered.new.store) c.in_ok-see_uncovered.ensures.known;
       keeps = Keeps-trans c.args.store.now c.loop-number.store c.see_uncovered.new.store h.walk.stays.keeps c.in_ok-see_uncovered.ensures.keeps;
     }

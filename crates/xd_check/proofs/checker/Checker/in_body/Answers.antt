@@ -10,14 +10,15 @@ use Rattle.xd_syntax.specs.Expression.{Expression, place_of_expression}
 use Rattle.xd_syntax.specs.May.{Scope, parameters_scope}
 use Rattle.xd_syntax.specs.CheckFaults.{LineWhere, LinesOf, Misfits, wrong_result}
 use Rattle.xd_syntax.specs.declared.exprs.ExprId.{ExprId}
-use Rattle.xd_check.specs.declared.signatures.Signature.{Signature}
-use Rattle.xd_check.specs.FoundLines.{AddsLines, told_size}
-use Rattle.xd_check.specs.InScope.{AreStates, ScopeStands, parameters_in_scope}
-use Rattle.xd_check.specs.Ready.{CanBeWalked, expr_at}
-use Rattle.xd_check.specs.Walked.{IsMisfit, IsWalked}
+use Rattle.xd_check_steps.specs.declared.signatures.Signature.{Signature}
+use Rattle.xd_check_steps.specs.FoundLines.{AddsLines, told_size}
+use Rattle.xd_check_steps.specs.InScope.{AreStates, ScopeStands, parameters_in_scope}
+use Rattle.xd_check_steps.specs.Walkable.{CanBeWalked, expr_at}
+use Rattle.xd_check_steps.specs.States.{IsMisfit}
+use Rattle.xd_check.specs.Walked.{IsWalked}
 use Rattle.xd_check.proofs.Arguments.{misfit_lines}
-use Rattle.xd_check.proofs.LineLists.{adds_as, adds_both}
-use Rattle.xd_check.proofs.IsSignatureLemmas.{state_kept}
+use Rattle.xd_check_steps.proofs.LineLists.{adds_as, adds_both}
+use Rattle.xd_check_steps.proofs.IsSignatureLemmas.{state_kept}
 use Rattle.xd_check.proofs.AreStatesLemmas.{parameters_count, parameters_stand, parameters_states}
 use Rattle.xd_check.proofs.checker.Checker.in_body.Goals as goal
 
@@ -65,15 +66,15 @@ returns c =
           let grows = c.in_ok-state.ensures.grows in
           let inside : ScopeStands P S c.args.auto.now c.in_ok-variables.variables = subst (ScopeStands P S c.args.auto.now) (sym scope) (parameters_stand P p c.args.auto.now f.params g.parameters.items c.requires.signature.parameters) in
           let w0 = c.in_ok-state.ensures.walked S inside in
-          let w : IsWalked P S x c.in_expression.new.auto c.in_expression.new.store c.args.lines.now.items c.in_expression.new.lines.items c.in_ok-state.state
-          = subst (λ (id : ExprId). IsWalked P S (expr_at p id.at) c.in_expression.new.auto c.in_expression.new.store c.args.lines.now.items c.in_expression.new.lines.items c.in_ok-state.state) c.body-body.ensures w0 in
-          let line : AddsLines c.see_result.new.store (LineWhere told_size (place_of_expression x) wrong_result (IsMisfit c.in_expression.new.auto c.in_ok-state.state g.declared)) c.in_expression.new.lines.items c.see_result.new.lines.items
-          = subst (λ (id : ExprId). AddsLines c.see_result.new.store (LineWhere told_size (place_of_expression (expr_at p id.at)) wrong_result (IsMisfit c.in_expression.new.auto c.in_ok-state.state g.declared)) c.in_expression.new.lines.items c.see_result.new.lines.items) c.body-body.ensures c.in_ok-see_result.ensures.lines in
+          let w : IsWalked P S x c.in_expression.new.auto c.in_expression.new.store c.args.findings.now.lines.items c.in_expression.new.findings.lines.items c.in_ok-state.state
+          = subst (λ (id : ExprId). IsWalked P S (expr_at p id.at) c.in_expression.new.auto c.in_expression.new.store c.args.findings.now.lines.items c.in_expression.new.findings.lines.items c.in_ok-state.state) c.body-body.ensures w0 in
+          let line : AddsLines c.see_result.new.store (LineWhere told_size (place_of_expression x) wrong_result (IsMisfit c.in_expression.new.auto c.in_ok-state.state g.declared)) c.in_expression.new.findings.lines.items c.see_result.new.findings.lines.items
+          = subst (λ (id : ExprId). AddsLines c.see_result.new.store (LineWhere told_size (place_of_expression (expr_at p id.at)) wrong_result (IsMisfit c.in_expression.new.auto c.in_ok-state.state g.declared)) c.in_expression.new.findings.lines.items c.see_result.new.findings.lines.items) c.body-body.ensures c.in_ok-see_result.ensures.lines in
           let wanted = state_kept (names_of P) c.args.auto.now c.in_expression.new.auto grows (placed_at p.types f.declared.at) g.declared c.requires.signature.result in
           adds_both c.in_expression.new.store c.see_result.new.store c.in_ok-see_result.ensures.keeps (LinesOf told_size P S x) (LineWhere told_size (place_of_expression x) wrong_result (Misfits P S x (placed_at p.types f.declared.at)))
-          c.args.lines.now.items c.in_expression.new.lines.items c.see_result.new.lines.items w.lines
+          c.args.findings.now.lines.items c.in_expression.new.findings.lines.items c.see_result.new.findings.lines.items w.lines
           (adds_as c.see_result.new.store (LineWhere told_size (place_of_expression x) wrong_result (IsMisfit c.in_expression.new.auto c.in_ok-state.state g.declared)) (LineWhere told_size (place_of_expression x) wrong_result (Misfits P S x (placed_at p.types f.declared.at)))
-          (misfit_lines P S x (placed_at p.types f.declared.at) (place_of_expression x) wrong_result c.in_expression.new.auto c.in_ok-state.state g.declared w.may wanted.exact) c.in_expression.new.lines.items c.see_result.new.lines.items line);
+          (misfit_lines P S x (placed_at p.types f.declared.at) (place_of_expression x) wrong_result c.in_expression.new.auto c.in_ok-state.state g.declared w.may wanted.exact) c.in_expression.new.findings.lines.items c.see_result.new.findings.lines.items line);
       grows = c.in_ok-state.ensures.grows;
       known = c.in_ok-see_result.ensures.known;
       keeps = Keeps-trans c.args.store.now c.in_expression.new.store c.see_result.new.store c.in_ok-state.ensures.keeps c.in_ok-see_result.ensures.keeps;

@@ -10,9 +10,9 @@ use Rattle.xd_syntax.specs.NameFaults.{name_faults}
 use Rattle.xd_syntax.specs.CheckFaults.{LinesOfFunction}
 use Rattle.xd_sound.proofs.Lists.{among_at}
 use Rattle.xd_syntax.proofs.Members.{map_mem}
-use Rattle.xd_check.specs.declared.signatures.Signature.{Signature}
-use Rattle.xd_check.specs.FoundLines.{AddsLines, told_size}
-use Rattle.xd_check.proofs.Walkable.{walk_body}
+use Rattle.xd_check_steps.specs.declared.signatures.Signature.{Signature}
+use Rattle.xd_check_steps.specs.FoundLines.{AddsLines, told_size}
+use Rattle.xd_check_steps.proofs.Walkable.{walk_body}
 use Rattle.xd_check.proofs.FunctionLoop.{rows_count, signature_at_row}
 use Rattle.xd_check.proofs.checker.Checker.in_function.Goals as goal
 
@@ -45,7 +45,7 @@ returns c =
           let same : c.functions.result.now ≡ p.functions = c.functions.ensures.functions ∙ ap (λ (q : ProgramTable). q.functions) c.program.ensures.program in
           let at : f ≡ get_or p.functions c.args.number f = c.index-functions-number.is ∙ ap (λ fs. get_or fs c.args.number f) same in
           let twin : h ≡ f = k ∙ sym (get_or_default p.functions c.args.number f h c.requires.number) ∙ sym at in
-          subst (λ (y : FunctionRow). AddsLines c.in_body.new.store (LinesOfFunction told_size (program_tree p) (function_definition p y)) c.args.lines.now.items c.in_body.new.lines.items) (sym twin) c.in_ok-in_body.ensures.lines;
+          subst (λ (y : FunctionRow). AddsLines c.in_body.new.store (LinesOfFunction told_size (program_tree p) (function_definition p y)) c.args.findings.now.lines.items c.in_body.new.findings.lines.items) (sym twin) c.in_ok-in_body.ensures.lines;
       grows = c.in_ok-in_body.ensures.grows;
       known = c.in_ok-in_body.ensures.known;
       keeps = c.in_ok-in_body.ensures.keeps;

@@ -9,7 +9,7 @@ use Rattle.xd_check.proofs.IsReadyLemmas.{ready_kept}
 use Rattle.xd_check.proofs.checker.Checker.in_functions.Goals as goal
 
 pub loop-number-init : goal.loop-number-init
-loop-number-init c = record { walk = functions_begin c.args.self.now.sound c.args.auto.now c.args.store.now c.args.lines.now.items; known = c.requires.known }
+loop-number-init c = record { walk = functions_begin c.args.self.now.sound c.args.auto.now c.args.store.now c.args.findings.now.lines.items; known = c.requires.known }
 
 pub in_function-requires-clause-ready : goal.in_function-requires-clause-ready
 in_function-requires-clause-ready c = ready_kept c.args.self.now c.args.auto.now c.loop-number.auto' c.loop-number.invariant.walk.grows c.requires.ready
@@ -30,7 +30,7 @@ loop-number-preserved c =
     let within : n < length p.functions = subst (λ (fs : List FunctionRow). n < length fs) same c.loop-number-test.true in
     let e = c.in_ok-in_function.ensures in
     record {
-      walk = functions_more p c.args.auto.now c.loop-number.auto' c.in_function.new.auto c.args.store.now c.loop-number.store c.in_function.new.store c.args.lines.now.items c.loop-number.lines.items c.in_function.new.lines.items n
+      walk = functions_more p c.args.auto.now c.loop-number.auto' c.in_function.new.auto c.args.store.now c.loop-number.store c.in_function.new.store c.args.findings.now.lines.items c.loop-number.findings.lines.items c.in_function.new.findings.lines.items n
           (function_at p.functions n within) c.loop-number.invariant.walk within (function_at_is p.functions n within) e.lines e.grows e.keeps;
       known = e.known;
     }
@@ -42,7 +42,7 @@ returns c =
           let p : ProgramTable = c.args.self.now.sound in
           let same : c.functions-functions.result.now ≡ p.functions = c.functions-functions.ensures.functions ∙ ap (λ (q : ProgramTable). q.functions) c.program.ensures.program in
           let all : length p.functions ≤ c.loop-number.number = subst (λ (fs : List FunctionRow). length fs ≤ c.loop-number.number) same c.loop-number-test.false in
-          functions_end p c.args.auto.now c.loop-number.auto' c.args.store.now c.loop-number.store c.args.lines.now.items c.loop-number.lines.items c.loop-number.number (drop_all c.loop-number.number p.functions all) c.loop-number.invariant.walk;
+          functions_end p c.args.auto.now c.loop-number.auto' c.args.store.now c.loop-number.store c.args.findings.now.lines.items c.loop-number.findings.lines.items c.loop-number.number (drop_all c.loop-number.number p.functions all) c.loop-number.invariant.walk;
       keeps = c.loop-number.invariant.walk.keeps;
     }
 

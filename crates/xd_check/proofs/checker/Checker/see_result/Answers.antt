@@ -10,11 +10,11 @@ use Rattle.xd_doc.specs.declared.store.Seq.{Seq}
 use Rattle.xd_least.specs.Least.{size_limit}
 use Rattle.xd_syntax.specs.Expression.{place_of_expression}
 use Rattle.xd_syntax.specs.CheckFaults.{wrong_result}
-use Rattle.xd_check.specs.declared.lines.Finding.TheVariants.{Result}
-use Rattle.xd_check.specs.declared.lines.FoundLine.{FoundLine}
-use Rattle.xd_check.specs.Ready.{expr_at}
-use Rattle.xd_check.specs.Walked.{IsMisfit}
-use Rattle.xd_check.proofs.LineLists.{adds_nowhere, adds_where}
+use Rattle.xd_check_steps.specs.declared.lines.Finding.TheVariants.{Result}
+use Rattle.xd_check_steps.specs.declared.lines.FoundLine.{FoundLine}
+use Rattle.xd_check_steps.specs.Walkable.{expr_at}
+use Rattle.xd_check_steps.specs.States.{IsMisfit}
+use Rattle.xd_check_steps.proofs.LineLists.{adds_nowhere, adds_where}
 use Rattle.xd_check.proofs.checker.Checker.see_result.Goals as goal
 
 pub returns-in_ok-push : goal.returns-in_ok-push
@@ -23,7 +23,7 @@ returns-in_ok-push c =
       lines =
           let ds : List Document = c.misfit.new.store in
           let seq : Seq = c.in-Some.document in
-          let old : List FoundLine = c.args.lines.now.items in
+          let old : List FoundLine = c.args.findings.now.lines.items in
           let e = c.in_ok-document.ensures in
           let taken : IsLeastUpTo size_limit (IsMisfit c.args.auto.now c.args.state c.args.wanted) (document_at ds seq) = subst (λ o. IfSome o (λ q. IsLeastUpTo size_limit (IsMisfit c.args.auto.now c.args.state c.args.wanted) (document_at ds q))) c.in-Some.is e.least in
           let there : BelongsTo ds seq = subst (λ o. IfSome o (BelongsTo ds)) c.in-Some.is e.belongs in
@@ -38,7 +38,7 @@ returns-in_default c =
     record {
       lines =
           adds_nowhere c.misfit.new.store (place_of_expression (expr_at c.args.self.now.sound c.args.body.at)) wrong_result (IsMisfit c.args.auto.now c.args.state c.args.wanted)
-          (λ d h. h.1 (c.in_ok-document.ensures.none (ap (λ o. Ok o) c.in_default.is) d h.0)) c.args.lines.now.items c.args.lines.now.items refl;
+          (λ d h. h.1 (c.in_ok-document.ensures.none (ap (λ o. Ok o) c.in_default.is) d h.0)) c.args.findings.now.lines.items c.args.findings.now.lines.items refl;
       known = c.in_ok-document.ensures.known;
       keeps = c.in_ok-document.ensures.keeps;
     }

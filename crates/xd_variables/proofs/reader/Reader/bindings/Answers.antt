@@ -5,7 +5,7 @@ use Rattle.xd_syntax.specs.Placed.{PlacedTree, unplaced}
 use Rattle.xd_syntax.specs.Tree.{Definitions}
 use Rattle.xd_clauses.specs.Clauses.{Accepted, AreGivensOf}
 use Rattle.xd_clauses.specs.Compiled.{IsNumbered}
-use Rattle.xd_check.proofs.GrowsLemmas.{grows_none}
+use Rattle.xd_check_steps.proofs.GrowsLemmas.{grows_none}
 use Rattle.xd_variables.specs.Bound.{reading_of}
 use Rattle.xd_variables.specs.declared.variables.Ways.{Ways}
 use Rattle.xd_variables.proofs.reader.Reader.bindings.Goals as goal

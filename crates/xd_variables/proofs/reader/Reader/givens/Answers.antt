@@ -8,7 +8,7 @@ use Rattle.xd_syntax.specs.Tree.{Definitions}
 use Rattle.xd_clauses.specs.Clauses.{Accepted}
 use Rattle.xd_clauses.specs.Compiled.{IsNumbered}
 use Rattle.xd_clauses.proofs.Givens.{all_nothing}
-use Rattle.xd_check.proofs.GrowsLemmas.{grows_by, grows_then}
+use Rattle.xd_check_steps.proofs.GrowsLemmas.{grows_by, grows_then}
 use Rattle.xd_variables.specs.Bound.{reading_of}
 use Rattle.xd_variables.proofs.ReadingLemmas.{gives_nothing}
 use Rattle.xd_variables.proofs.reader.Reader.givens.Goals as goal

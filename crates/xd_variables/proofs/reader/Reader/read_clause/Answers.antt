@@ -9,7 +9,7 @@ use Rattle.xd_syntax.specs.Program.{ProgramTree, names_of}
 use Rattle.xd_syntax.specs.Table.{Row}
 use Rattle.xd_bind.specs.declared.tracks.Given.{Given}
 use Rattle.xd_clauses.specs.Clauses.{Accepted, AreGivensOf}
-use Rattle.xd_check.proofs.Numbered.{some_numbered}
+use Rattle.xd_check_steps.proofs.Numbered.{some_numbered}
 use Rattle.xd_variables.specs.Binders.{place_of_occurrence}
 use Rattle.xd_variables.specs.Bound.{reading_of}
 use Rattle.xd_variables.specs.Read.{placed_givens}

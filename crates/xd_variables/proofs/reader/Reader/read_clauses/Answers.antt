@@ -1,5 +1,5 @@
-use Rattle.xd_check.specs.Ready.{patterns_among}
-use Rattle.xd_check.proofs.Numbered.{compiled_as}
+use Rattle.xd_check_steps.specs.Clauses.{patterns_among}
+use Rattle.xd_check_steps.proofs.Numbered.{compiled_as}
 use Rattle.xd_variables.proofs.reader.Reader.read_clauses.Goals as goal
 
 pub read_compiled-requires-clause-compiled : goal.read_compiled-requires-clause-compiled

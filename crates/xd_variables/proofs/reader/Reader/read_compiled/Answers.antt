@@ -12,12 +12,12 @@ use Rattle.xd_clauses.specs.Behind.{StandsIn}
 use Rattle.xd_clauses.specs.Compiled.{IsNumbered}
 use Rattle.xd_clauses.specs.declared.compiled.CompiledPatterns.{CompiledPatterns}
 use Rattle.xd_clauses.proofs.NumberedLemmas.{paired_length}
-use Rattle.xd_check.specs.Ready.{HasNumber, ServesOn}
-use Rattle.xd_check.specs.Walked.{Grows}
+use Rattle.xd_check_steps.specs.Clauses.{HasNumber, ServesOn}
+use Rattle.xd_check_steps.specs.States.{Grows}
 use Rattle.xd_check.proofs.ClauseLoop.{clause_here, stands_on}
-use Rattle.xd_check.proofs.GrowsLemmas.{grows_none, grows_then}
+use Rattle.xd_check_steps.proofs.GrowsLemmas.{grows_none, grows_then}
 use Rattle.xd_check.proofs.IsReadyLemmas.{serves_kept}
-use Rattle.xd_check.proofs.Numbered.{numbered_here, some_here}
+use Rattle.xd_check_steps.proofs.Numbered.{numbered_here, some_here}
 use Rattle.xd_variables.specs.Bound.{reading_of}
 use Rattle.xd_variables.specs.declared.variables.BoundVariable.{BoundVariable}
 use Rattle.xd_variables.proofs.ClauseLoop.{ClausesRead, clauses_begin, clauses_end, clauses_more}

@@ -7,9 +7,9 @@ use Rattle.xd_syntax.specs.Exprs.{clause_numbers, shape_of}
 use Rattle.xd_syntax.specs.Kept.{ProgramTable}
 use Rattle.xd_syntax.specs.PlacedTable.{placed_at}
 use Rattle.xd_syntax.specs.declared.exprs.Clause.{Clause}
-use Rattle.xd_check.specs.Ready.{expr_at}
-use Rattle.xd_check.proofs.GrowsLemmas.{grows_none}
-use Rattle.xd_check.proofs.Walkable.{expr_is, walk_clauses}
+use Rattle.xd_check_steps.specs.Walkable.{expr_at}
+use Rattle.xd_check_steps.proofs.GrowsLemmas.{grows_none}
+use Rattle.xd_check_steps.proofs.Walkable.{expr_is, walk_clauses}
 use Rattle.xd_variables.specs.Bound.{reading_of}
 use Rattle.xd_variables.proofs.MatchLoop.{no_match, read_match}
 use Rattle.xd_variables.proofs.reader.Reader.read_match.Goals as goal

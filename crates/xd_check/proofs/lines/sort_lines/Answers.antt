@@ -1,9 +1,0 @@
-use Rattle.std.proofs.Common.{rules}
-use Rattle.std.proofs.lemmas.List.Sorted.{answers_always}
-use Rattle.xd_check.proofs.Ranks.{found_rank, sorted_by_rank}
-use Rattle.xd_check.proofs.lines.sort_lines.Goals as goal
-
-pub returns : goal.returns
-returns c =
-    let computes = answers_always _ _ _ (λ f a r g h. search rules) in
-    sorted_by_rank _ _ (c.in_ok-sort_by_key.ensures.sorted found_rank computes) (c.sort_by_key.ensures.stable found_rank computes)

@@ -1,7 +1,0 @@
-use Rattle.std.proofs.Common.{take}
-use Rattle.std.specs.List.{AllZip}
-use Rattle.xd_check.specs.Scrutinees.{StandsAlone}
-use Rattle.xd_check.proofs.matches.apart.Given as goal
-
-abbrev pub invariant-loop-found : goal.invariant-loop-found
-invariant-loop-found l = AllZip (StandsAlone l.auto') (take l.found-index l.met) l.made.items

@@ -1,4 +1,0 @@
-use Rattle.xd_check.proofs.states.is_plainly_within.Goals as goal
-
-pub returns : goal.returns
-returns c q d h = c.is_universal.ensures q d

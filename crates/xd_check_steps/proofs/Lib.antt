@@ -1,0 +1,17 @@
+pub mod AcceptedInTurnLemmas
+pub mod AddsLinesLemmas
+pub mod AreTypeStatesLemmas
+pub mod Ceilings
+pub mod Collecting
+pub mod FoundLineLemmas
+pub mod FunctionRowLemmas
+pub mod GrowsLemmas
+pub mod InScopeLemmas
+pub mod IsKnownLemmas
+pub mod IsSignatureLemmas
+pub mod LineLists
+pub mod Lists
+pub mod Newest
+pub mod Numbered
+pub mod Ranks
+pub mod Walkable

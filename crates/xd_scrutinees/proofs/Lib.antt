@@ -1,0 +1,4 @@
+pub mod ByPlace
+pub mod MetClauses
+pub mod MetMatches
+pub mod MetOrder
