@@ -38,6 +38,13 @@ struct AllValued {
     left: u64,
 }
 
+/// A program that is run, and how many names each of its matches may unfold.
+#[derive(Clone, Copy)]
+struct Run<'a> {
+    program: &'a PlainProgram,
+    unfoldings: u64,
+}
+
 /// Why there is no value.
 #[derive(Clone, Copy, Debug, PartialEq, Eq)]
 pub enum NoValue {
@@ -75,9 +82,11 @@ pub fn value(
     ensures ended { IfErr result (λ why. IsWithout why (value_with (matches_of program.now unfoldings) (program_of program.now) calls (bindings_of variables.now) (expression_of expression.now))) }
     ensures enough { IsSound (program_of program.now) → IsSettledWithin (names_of (program_of program.now)) unfoldings (λ matches. value_with matches (program_of program.now) calls (bindings_of variables.now) (expression_of expression.now)) → IsAnswer result (on_fuel.value (program_of program.now) calls (bindings_of variables.now) (expression_of expression.now)) }
 {
-    value_within(
-        alloc, program, unfoldings, calls, calls, variables, expression,
-    )
+    let run = Run {
+        program,
+        unfoldings,
+    };
+    value_within(alloc, run, calls, calls, variables, expression)
 }
 
 /// The value of the call of `main` on a document, with so many calls left and so many unfoldings in
@@ -96,22 +105,25 @@ pub fn meaning(
 {
     let main = Label::new(alloc, "main")?;
     let documents = in_front(alloc, document, Vec::new(alloc))?;
-    call_within(alloc, program, unfoldings, calls, calls, &main, &documents)
+    let run = Run {
+        program,
+        unfoldings,
+    };
+    call_within(alloc, run, calls, calls, &main, &documents)
 }
 
 /// The value of an expression, where calls stand within one another at most so deep.
 #[cycle(value)]
 fn value_within(
     alloc: Global,
-    program: &PlainProgram,
-    unfoldings: u64,
+    run: Run<'_>,
     deep: u64,
     calls: u64,
     variables: &[PlainBinding],
     expression: &PlainExpression,
 ) -> Result<Valued, NoValue>
-    requires { AnyIsFirst program.now }
-    ensures { IsAnswer result (value_of program.now unfoldings deep calls variables.now (expression_of expression.now)) }
+    requires { AnyIsFirst run.program.now }
+    ensures { IsAnswer result (value_of run.entry.program.now run.entry.unfoldings deep calls variables.now (expression_of expression.now)) }
 {
     match expression {
         PlainExpression::Empty => Ok(Valued {
@@ -136,16 +148,16 @@ fn value_within(
             })
         }
         PlainExpression::Elem(label, content) => tagged_within(
-            alloc, program, unfoldings, deep, calls, variables, label, content,
+            alloc, run, deep, calls, variables, label, content,
         ),
         PlainExpression::Seq(first, rest) => joined_within(
-            alloc, program, unfoldings, deep, calls, variables, first, rest,
+            alloc, run, deep, calls, variables, first, rest,
         ),
         PlainExpression::Call(function, arguments) => called_within(
-            alloc, program, unfoldings, deep, calls, variables, function, arguments,
+            alloc, run, deep, calls, variables, function, arguments,
         ),
         PlainExpression::Match(scrutinee, clauses) => matched_within(
-            alloc, program, unfoldings, deep, calls, variables, scrutinee, clauses,
+            alloc, run, deep, calls, variables, scrutinee, clauses,
         ),
     }
 }
@@ -154,18 +166,17 @@ fn value_within(
 #[cycle(value)]
 fn tagged_within(
     alloc: Global,
-    program: &PlainProgram,
-    unfoldings: u64,
+    run: Run<'_>,
     deep: u64,
     calls: u64,
     variables: &[PlainBinding],
     label: &Label,
     content: &PlainExpression,
 ) -> Result<Valued, NoValue>
-    requires { AnyIsFirst program.now }
-    ensures { IsAnswer result (value_of program.now unfoldings deep calls variables.now (Tagged the_start label.now (expression_of content.now))) }
+    requires { AnyIsFirst run.program.now }
+    ensures { IsAnswer result (value_of run.entry.program.now run.entry.unfoldings deep calls variables.now (Tagged the_start label.now (expression_of content.now))) }
 {
-    let content = value_within(alloc, program, unfoldings, deep, calls, variables, content)?;
+    let content = value_within(alloc, run, deep, calls, variables, content)?;
     let document = PlainDocument::with_element(
         alloc,
         label,
@@ -182,21 +193,18 @@ fn tagged_within(
 #[cycle(value)]
 fn joined_within(
     alloc: Global,
-    program: &PlainProgram,
-    unfoldings: u64,
+    run: Run<'_>,
     deep: u64,
     calls: u64,
     variables: &[PlainBinding],
     first: &PlainExpression,
     rest: &PlainExpression,
 ) -> Result<Valued, NoValue>
-    requires { AnyIsFirst program.now }
-    ensures { IsAnswer result (value_of program.now unfoldings deep calls variables.now (Joined the_start (expression_of first.now) (expression_of rest.now))) }
+    requires { AnyIsFirst run.program.now }
+    ensures { IsAnswer result (value_of run.entry.program.now run.entry.unfoldings deep calls variables.now (Joined the_start (expression_of first.now) (expression_of rest.now))) }
 {
-    let front = value_within(alloc, program, unfoldings, deep, calls, variables, first)?;
-    let back = value_within(
-        alloc, program, unfoldings, deep, front.left, variables, rest,
-    )?;
+    let front = value_within(alloc, run, deep, calls, variables, first)?;
+    let back = value_within(alloc, run, deep, front.left, variables, rest)?;
     joined(alloc, &front, &back)
 }
 
@@ -215,70 +223,52 @@ fn joined(alloc: Global, front: &Valued, back: &Valued) -> Result<Valued, NoValu
 #[cycle(value)]
 fn called_within(
     alloc: Global,
-    program: &PlainProgram,
-    unfoldings: u64,
+    run: Run<'_>,
     deep: u64,
     calls: u64,
     variables: &[PlainBinding],
     function: &Label,
     arguments: &PlainArguments,
 ) -> Result<Valued, NoValue>
-    requires { AnyIsFirst program.now }
-    ensures { IsAnswer result (value_of program.now unfoldings deep calls variables.now (Called the_start function.now (arguments_of arguments.now))) }
+    requires { AnyIsFirst run.program.now }
+    ensures { IsAnswer result (value_of run.entry.program.now run.entry.unfoldings deep calls variables.now (Called the_start function.now (arguments_of arguments.now))) }
 {
-    let given = values_within(
-        alloc, program, unfoldings, deep, calls, variables, arguments,
-    )?;
+    let given = values_within(alloc, run, deep, calls, variables, arguments)?;
     let documents = &given.documents;
-    call_within(
-        alloc, program, unfoldings, deep, given.left, function, documents,
-    )
+    call_within(alloc, run, deep, given.left, function, documents)
 }
 
 /// The value of the clause that takes the scrutinee's value.
 #[cycle(value)]
 fn matched_within(
     alloc: Global,
-    program: &PlainProgram,
-    unfoldings: u64,
+    run: Run<'_>,
     deep: u64,
     calls: u64,
     variables: &[PlainBinding],
     scrutinee: &PlainExpression,
     clauses: &PlainClauses,
 ) -> Result<Valued, NoValue>
-    requires { AnyIsFirst program.now }
-    ensures { IsAnswer result (value_of program.now unfoldings deep calls variables.now (Matched the_start (expression_of scrutinee.now) (clauses_of clauses.now))) }
+    requires { AnyIsFirst run.program.now }
+    ensures { IsAnswer result (value_of run.entry.program.now run.entry.unfoldings deep calls variables.now (Matched the_start (expression_of scrutinee.now) (clauses_of clauses.now))) }
 {
-    let matched = value_within(
-        alloc, program, unfoldings, deep, calls, variables, scrutinee,
-    )?;
+    let matched = value_within(alloc, run, deep, calls, variables, scrutinee)?;
     let document = &matched.document;
-    chosen_within(
-        alloc,
-        program,
-        unfoldings,
-        deep,
-        matched.left,
-        variables,
-        document,
-        clauses,
-    )
+    chosen_within(alloc, run, deep, matched.left, variables, document, clauses)
 }
 
 /// The values of arguments, from left to right.
 #[cycle(value)]
 fn values_within(
     alloc: Global,
-    program: &PlainProgram,
-    unfoldings: u64,
+    run: Run<'_>,
     deep: u64,
     calls: u64,
     variables: &[PlainBinding],
     arguments: &PlainArguments,
 ) -> Result<AllValued, NoValue>
-    requires { AnyIsFirst program.now }
-    ensures { AreAnswers result (values_of program.now unfoldings deep calls variables.now (arguments_of arguments.now)) }
+    requires { AnyIsFirst run.program.now }
+    ensures { AreAnswers result (values_of run.entry.program.now run.entry.unfoldings deep calls variables.now (arguments_of arguments.now)) }
 {
     match arguments {
         PlainArguments::NoArgument => Ok(AllValued {
@@ -286,10 +276,8 @@ fn values_within(
             left: calls,
         }),
         PlainArguments::Argument(first, others) => {
-            let first = value_within(alloc, program, unfoldings, deep, calls, variables, first)?;
-            let others = values_within(
-                alloc, program, unfoldings, deep, first.left, variables, others,
-            )?;
+            let first = value_within(alloc, run, deep, calls, variables, first)?;
+            let others = values_within(alloc, run, deep, first.left, variables, others)?;
             let documents = in_front(alloc, first.document, others.documents)?;
             Ok(AllValued {
                 documents,
@@ -303,27 +291,30 @@ fn values_within(
 #[cycle(value)]
 fn chosen_within(
     alloc: Global,
-    program: &PlainProgram,
-    unfoldings: u64,
+    run: Run<'_>,
     deep: u64,
     calls: u64,
     variables: &[PlainBinding],
     document: &PlainDocument,
     clauses: &PlainClauses,
 ) -> Result<Valued, NoValue>
-    requires { AnyIsFirst program.now }
-    ensures { IsAnswer result (chosen_of program.now unfoldings deep calls variables.now (document_of document.now) (clauses_of clauses.now)) }
+    requires { AnyIsFirst run.program.now }
+    ensures { IsAnswer result (chosen_of run.entry.program.now run.entry.unfoldings deep calls variables.now (document_of document.now) (clauses_of clauses.now)) }
 {
     match clauses {
         PlainClauses::NoClause => Err(NoValue::Stuck),
         PlainClauses::Clause(pattern, body, others) => {
-            match first_within(alloc, &program.definitions, unfoldings, pattern, document)? {
-                None => chosen_within(
-                    alloc, program, unfoldings, deep, calls, variables, document, others,
-                ),
+            match first_within(
+                alloc,
+                &run.program.definitions,
+                run.unfoldings,
+                pattern,
+                document,
+            )? {
+                None => chosen_within(alloc, run, deep, calls, variables, document, others),
                 Some(bindings) => {
                     let inner = with_outer(alloc, bindings, variables)?;
-                    value_within(alloc, program, unfoldings, deep, calls, &inner, body)
+                    value_within(alloc, run, deep, calls, &inner, body)
                 }
             }
         }
@@ -334,15 +325,14 @@ fn chosen_within(
 #[cycle(value)]
 fn call_within(
     alloc: Global,
-    program: &PlainProgram,
-    unfoldings: u64,
+    run: Run<'_>,
     deep: u64,
     calls: u64,
     name: &Label,
     documents: &[PlainDocument],
 ) -> Result<Valued, NoValue>
-    requires { AnyIsFirst program.now }
-    ensures { IsAnswer result (on_fuel.call_within (matches_of program.now unfoldings) (program_of program.now) deep calls name.now (documents_of documents.now)) }
+    requires { AnyIsFirst run.program.now }
+    ensures { IsAnswer result (on_fuel.call_within (matches_of run.entry.program.now run.entry.unfoldings) (program_of run.entry.program.now) deep calls name.now (documents_of documents.now)) }
 {
     if deep == 0 {
         return Err(NoValue::Spent);
@@ -350,19 +340,11 @@ fn call_within(
     if calls == 0 {
         return Err(NoValue::Spent);
     }
-    let Some(function) = function_named(&program.functions, name) else {
+    let Some(function) = function_named(&run.program.functions, name) else {
         return Err(NoValue::Stuck);
     };
     let variables = parameters_bound(alloc, &function.parameters, documents)?;
-    value_within(
-        alloc,
-        program,
-        unfoldings,
-        deep - 1,
-        calls - 1,
-        &variables,
-        &function.body,
-    )
+    value_within(alloc, run, deep - 1, calls - 1, &variables, &function.body)
 }
 
 /// What the newest variable of this name has.
