@@ -2,7 +2,7 @@
 
 use std::io::Write;
 use xd_calls_lines::{Call, CallError};
-use xd_proof::{ProofAtom, ReadCase, Step, cut_lines, read_case, split_words};
+use xd_proof::{Atom, ReadCase, Step, cut_lines, read_case, split_words};
 
 /// `read_case LINE`: the number of the head, the atom, and the steps of the choice tree; or `none`.
 pub fn show_read_case(call: &Call<'_>, out: &mut Vec<u8>) -> Result<(), CallError> {
@@ -21,12 +21,12 @@ fn show_read(read: &ReadCase, out: &mut Vec<u8>) -> Result<(), CallError> {
     Ok(())
 }
 
-fn show_atom(atom: &ProofAtom, out: &mut Vec<u8>) -> Result<(), CallError> {
+fn show_atom(atom: &Atom, out: &mut Vec<u8>) -> Result<(), CallError> {
     match atom {
-        ProofAtom::Label(label) => show_named("label ", label.as_str(), out),
-        ProofAtom::OtherLabel => show_named("another label", "", out),
-        ProofAtom::Text(text) => show_named("text ", text.as_str(), out),
-        ProofAtom::OtherText => show_named("another text", "", out),
+        Atom::Label(label) => show_named("label ", label.as_str(), out),
+        Atom::OtherLabel => show_named("another label", "", out),
+        Atom::Text(text) => show_named("text ", text.as_str(), out),
+        Atom::OtherText => show_named("another text", "", out),
     }
 }
 

@@ -11,8 +11,9 @@ use xd_boole::{merged, set_of, taken_from, text_groups_before};
 use xd_calls_lines::{Call, CallError, class, show_answer, show_class, show_words, words};
 use xd_calls_programs::{show_members, state_of};
 use xd_empty::{Uses, kept_part};
-use xd_rules::{Atom, goal_cases, label_atoms, share, sides_of, text_atoms, unnamed_of};
+use xd_rules::{Atom, label_atoms, share, text_atoms};
 use xd_show_solve::level_of;
+use xd_state_heads::{goal_cases, sides_of, unnamed_of};
 
 /// `set_of NUMBERS`; `keys ONE TWO`, whether the key of the one before the other comes before that
 /// of the other before the one; `level TYPE`, to how many states the type's state leads after items,

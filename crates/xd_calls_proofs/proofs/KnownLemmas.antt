@@ -1,10 +1,10 @@
 -- Types and states whose names a program defines.
-use Rattle.std.proofs.Common.{◌≡◌, ℕ, Bool, true, false, ◌||◌, cond, List, [], ◌∷◌, Option, Some, refl, ap, sym, subst}
+use Rattle.std.proofs.Common.{◌≡◌, ℕ, Bool, true, false, ◌||◌, cond, List, [], ◌∷◌, refl, ap, sym, subst}
 use Rattle.std.specs.List.{AllByRecursion}
 use Rattle.std.specs.Str.{bytes_eq}
 use Rattle.xd_auto.specs.Automaton.{Automaton}
 use Rattle.xd_auto.specs.declared.auto.State.{State}
-use Rattle.xd_rules.specs.Moves.{claim_with}
+use Rattle.xd_state_heads.specs.Moves.{claim_with}
 use Rattle.xd_goals.specs.Rows.{TableView, claim_of, row_at}
 use Rattle.xd_goals.specs.Verdicts.{IsProved}
 use Rattle.xd_goals.proofs.GrowsByLemmas.{claim_within}
@@ -19,7 +19,7 @@ use Rattle.xd_syntax.specs.NameFaults.{known_types}
 use Rattle.xd_syntax.specs.Program.{ProgramTree}
 use Rattle.xd_syntax.specs.Sound.{is_defined, type_named}
 use Rattle.xd_syntax.specs.SoundTables.{IsTypeAt}
-use Rattle.xd_syntax.specs.Tree.{Tree, Text, Name, uses_only}
+use Rattle.xd_syntax.specs.Tree.{Text, Name, uses_only}
 use Rattle.xd_syntax.specs.Types.{tree}
 use Rattle.xd_syntax.specs.Words.{has_word, string_word}
 use Rattle.xd_syntax.specs.declared.types.TypeId.{TypeId}

@@ -3,7 +3,7 @@ use Rattle.std.proofs.Common.{◌≡◌, ℕ, inl, List, [], ◌∷◌, Option, 
 use Rattle.std.specs.List.{AllByRecursion}
 use Rattle.xd_auto.specs.Automaton.{Automaton}
 use Rattle.xd_auto.specs.declared.auto.State.{State}
-use Rattle.xd_rules.specs.Moves.{Accepts, claim_with}
+use Rattle.xd_state_heads.specs.Moves.{Accepts, claim_with}
 use Rattle.xd_rules.proofs.Members.{only_one}
 use Rattle.xd_goals.specs.Rows.{TableView, claim_of, row_at}
 use Rattle.xd_goals.specs.Truth.{IsIncluded}
@@ -12,7 +12,8 @@ use Rattle.xd_goals.proofs.GrowsByLemmas.{claim_within}
 use Rattle.xd_heads.specs.CellsView.{CellsView}
 use Rattle.xd_heads.specs.Mirrors.{IsTypeState, continuation_of}
 use Rattle.xd_heads.proofs.Mirrored.{type_is}
-use Rattle.xd_meaning.specs.Consistent.{IsConsistent, numbered}
+use Rattle.xd_meaning.specs.Consistent.{IsConsistent}
+use Rattle.xd_rules.specs.Rules.{numbered}
 use Rattle.xd_proof_make.specs.Made.{IsOfTypes, UsesDefined}
 use Rattle.xd_proof_make.specs.Written.{AreTypes}
 use Rattle.xd_proof_make.specs.ProofText.{IsOfKnownNames, ProvesRow, UsesKnownNames}

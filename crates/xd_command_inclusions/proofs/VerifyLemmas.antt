@@ -5,7 +5,7 @@ use Rattle.std.specs.List.{AllByRecursion}
 use Rattle.xd_base.specs.Outside.{HasRisen}
 use Rattle.xd_syntax.specs.Program.{ProgramTree, names_of}
 use Rattle.xd_syntax.specs.Table.{Row}
-use Rattle.xd_meaning.specs.Consistent.{Claim, IsConsistent}
+use Rattle.xd_meaning.specs.Consistent.{ClaimHolds, IsConsistent}
 use Rattle.xd_meaning.specs.Breach.{Lined, goals_of}
 use Rattle.xd_proof.specs.Goals.{AreGoalsAt}
 use Rattle.xd_proof.specs.declared.proof.ProofGoal.{ProofGoal}
@@ -17,7 +17,7 @@ use Rattle.xd_command_inclusions.specs.Verify.{IsProved, Judges, AnswersVerify, 
 use Rattle.xd_command_documents.proofs.Steps.{text_later}
 
 claim_of : (P : ProgramTree) (types : List Row) (proof : List ProofGoal) (goals : List Lined) (o : Output) → AreGoalsAt types proof goals → 0 < length proof →
-    IsConsistent (names_of P) (goals_of goals) → AllByRecursion (Claim (names_of P)) (goals_of goals) →
+    IsConsistent (names_of P) (goals_of goals) → AllByRecursion (ClaimHolds (names_of P)) (goals_of goals) →
     ((claim : Lined) (others : List Lined) → goals ≡ claim ∷ others → o ≡ record { status = 0; text = claim_text claim.goal ++ codes "\n" }) → IsProved P goals o
 claim_of P types [] goals o are some consistent holds e = absurd (omega (arith, some))
 claim_of P types (g ∷ gs) [] o are some consistent holds e = absurd are
@@ -32,7 +32,7 @@ claim_of P types (g ∷ gs) (l ∷ ls) o are some consistent holds e = record {
 
 -- an accepted proof's claim is written
 pub judges_accepted : (P : ProgramTree) (types : List Row) (proof : List ProofGoal) (goals : List Lined) (o : Output) → AreGoalsAt types proof goals → 0 < length proof →
-    IsConsistent (names_of P) (goals_of goals) → AllByRecursion (Claim (names_of P)) (goals_of goals) →
+    IsConsistent (names_of P) (goals_of goals) → AllByRecursion (ClaimHolds (names_of P)) (goals_of goals) →
     ((claim : Lined) (others : List Lined) → goals ≡ claim ∷ others → o ≡ record { status = 0; text = claim_text claim.goal ++ codes "\n" }) → Judges P goals o
 judges_accepted P types proof goals o are some consistent holds e = inl (claim_of P types proof goals o are some consistent holds e)
 

@@ -10,7 +10,8 @@ use Rattle.xd_syntax.specs.Sound.{is_defined, type_named}
 use Rattle.xd_syntax.specs.declared.fault.Fault.{Fault}
 use Rattle.xd_syntax.specs.declared.fault.FaultKind.TheVariants.{NoSuchName}
 use Rattle.xd_meaning.specs.Breach.{Lined, goals_of}
-use Rattle.xd_meaning.specs.Consistent.{Goal, IsConsistent, numbered}
+use Rattle.xd_meaning.specs.Consistent.{Goal, IsConsistent}
+use Rattle.xd_rules.specs.Rules.{numbered}
 use Rattle.xd_command_steps.specs.Output.{Output, separated, fault_lines}
 use Rattle.xd_command_steps.specs.Proofs.{HasGoals}
 

@@ -1,7 +1,7 @@
 -- What `verify` and `upgrade` answer, after the faults of the program.
 use Rattle.std.specs.Prelude.{◌≡◌, ◌⊎◌, ℕ, List, ◌∷◌, ◌++◌, codes}
 use Rattle.xd_syntax.specs.Program.{ProgramTree, names_of}
-use Rattle.xd_meaning.specs.Consistent.{Claim, IsConsistent}
+use Rattle.xd_meaning.specs.Consistent.{ClaimHolds, IsConsistent}
 use Rattle.xd_meaning.specs.Breach.{Lined, Reason, goals_of, IsFirstBreach}
 use Rattle.xd_proof_write.specs.ClaimText.{claim_text}
 use Rattle.xd_proof_write.specs.SecondText.{second_text_of}
@@ -16,7 +16,7 @@ pub record IsProved (P : ProgramTree) (goals : List Lined) (o : Output) : Type 0
   pub claim : Lined
   pub others : List Lined
   pub first : goals ≡ claim ∷ others
-  pub holds : Claim (names_of P) claim.goal
+  pub holds : ClaimHolds (names_of P) claim.goal
   pub output : o ≡ record { status = 0; text = claim_text claim.goal ++ codes "\n" }
 
 -- The proof is consistent, and its claim holds; or a line breaks a rule, which is the first one.

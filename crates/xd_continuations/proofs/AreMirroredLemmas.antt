@@ -9,7 +9,7 @@ use Rattle.xd_syntax.specs.Tree.{Tree, Definitions, seq_of}
 use Rattle.xd_syntax.specs.Fits.{Fits}
 use Rattle.xd_syntax.specs.Ways.{Among}
 use Rattle.xd_laws.specs.Guarded.{Guarded}
-use Rattle.xd_meaning.specs.Heads.{HeadKind, element_in, text_in}
+use Rattle.xd_rules.specs.Heads.{HeadKind, element_in, text_in}
 use Rattle.xd_meaning.specs.HeadBegins.{Begins}
 use Rattle.xd_laws.proofs.Documents.{HasItem}
 use Rattle.xd_syntax.proofs.Members.{map_mem, mem_map}

@@ -4,7 +4,8 @@ use Rattle.std.specs.Str.{bytes_eq}
 use Rattle.std.specs.List.{AllByRecursion}
 use Rattle.xd_doc.proofs.Lists.{all_append, map_append}
 use Rattle.xd_syntax.specs.Tree.{Tree, Empty, Text, Words, Name, Elem, Seq, Alt, Star, Plus, Opt, Val, Definitions, body, seq_of, is_empty}
-use Rattle.xd_meaning.specs.Heads.{Head, element_in, pieces, with_behind, heads_by, heads_of_name, heads_of_definition, heads}
+use Rattle.xd_rules.specs.Heads.{Head, element_in}
+use Rattle.xd_meaning.specs.Heads.{pieces, with_behind, heads_by, heads_of_name, heads_of_definition, heads}
 use Rattle.xd_meaning.specs.CanBeEmpty.{can_be_empty}
 use Rattle.xd_continuations.specs.Continuation.{Move, followed, moves_by, definition_within, name_within, moves_within, moves_along, moves, head_of, is_piece, IsMerged, AreMerged, IsPiece, IsContinuation}
 
@@ -115,7 +116,7 @@ head_of-followed : (K : List Tree) (U : Tree) → pieces U ≡ K → (m : Move) 
 head_of-followed K U e m i =
     let a = pieces-seq_of m.rest i.rest in
     let b : seq_of (pieces (seq_of m.rest) ++ pieces U) ≡ seq_of (m.rest ++ K) = rw (a, e) refl in
-    ap (λ (T : Tree). let h : Head = record { kind = m.kind; content = seq_of m.content; rest = T } in h) b
+    ap (λ (T : Tree). let h : Head Tree = record { kind = m.kind; content = seq_of m.content; rest = T } in h) b
 
 behind_all : (K : List Tree) (U : Tree) → pieces U ≡ K → (ms : List Move) → AllByRecursion IsMove ms → map (with_behind U) (map head_of ms) ≡ map head_of (map (followed K) ms)
 behind_all K U e ms a =
@@ -140,14 +141,14 @@ module _ (Z : Tree → Bool) (N : List ℕ → List Move) (stand : (x : List ℕ
   moves_stand (Opt T) m = moves_stand T m
   moves_stand (Val x T) m = absurd m
 
-  module _ (H : List ℕ → List Head) (same : (x : List ℕ) → H x ≡ map head_of (N x)) where
+  module _ (H : List ℕ → List (Head Tree)) (same : (x : List ℕ) → H x ≡ map head_of (N x)) where
     pub same_heads : (T : Tree) → IsMerged T → heads_by Z H T ≡ map head_of (moves_by Z N T)
     same_heads Empty m = refl
     same_heads Text m = refl
     same_heads (Words w) m = refl
     same_heads (Name x) m = same x
     same_heads (Elem c T) m =
-        ap (λ (U : Tree). let h : Head = record { kind = element_in c; content = U; rest = Empty } in h ∷ []) (sym (seq_of-pieces T m))
+        ap (λ (U : Tree). let h : Head Tree = record { kind = element_in c; content = U; rest = Empty } in h ∷ []) (sym (seq_of-pieces T m))
     same_heads (Seq T U) m =
         let i = ap (map (with_behind U)) (same_heads T m.2) ∙ behind_all (pieces U) U refl (moves_by Z N T) (moves_stand T m.2) in
         let j = ap (λ hs. cond (Z T) hs []) (same_heads U m.3) ∙ sym (map_cond head_of (Z T) (moves_by Z N U)) in
@@ -170,7 +171,7 @@ module _ (Z : Tree → Bool) (N : List ℕ → List Move) (stand : (x : List ℕ
     same_along (T ∷ []) k = same_heads T (k.0).1 ∙ last (Z T) (moves_by Z N T)
       where
         unchanged : (m : Move) → head_of m ≡ head_of (followed [] m)
-        unchanged m = ap (λ (K : List Tree). let h : Head = record { kind = m.kind; content = seq_of m.content; rest = seq_of K } in h) (sym (append-nil m.rest))
+        unchanged m = ap (λ (K : List Tree). let h : Head Tree = record { kind = m.kind; content = seq_of m.content; rest = seq_of K } in h) (sym (append-nil m.rest))
 
         followed-none : (ms : List Move) → map head_of ms ≡ map head_of (map (followed []) ms ++ [])
         followed-none [] = refl
@@ -206,7 +207,7 @@ module _ (E : Definitions) (merged : AreMerged E) (Z : Tree → Bool) where
   names_stand (suc n) x =
       definition_stands (moves_by Z (name_within [] (moves_by Z) E n)) (moves_stand Z (name_within [] (moves_by Z) E n) (names_stand n)) x (body E x) refl
 
-  definition_same : (F : Tree → List Move) (G : Tree → List Head) → ((T : Tree) → IsMerged T → G T ≡ map head_of (F T)) → (x : List ℕ) (o : Option Tree) → body E x ≡ o →
+  definition_same : (F : Tree → List Move) (G : Tree → List (Head Tree)) → ((T : Tree) → IsMerged T → G T ≡ map head_of (F T)) → (x : List ℕ) (o : Option Tree) → body E x ≡ o →
       heads_of_definition G o ≡ map head_of (definition_within [] F o)
   definition_same F G h x None e = refl
   definition_same F G h x (Some T) e = h T (merged_body E merged x T e)

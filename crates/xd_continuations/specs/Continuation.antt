@@ -4,7 +4,8 @@ use Rattle.std.specs.Prelude.{◌≡◌, ℕ, zero, suc, Bool, true, false, cond
 use Rattle.std.specs.List.{AllByRecursion}
 use Rattle.xd_doc.specs.Classes.{LabelClass, TextClass}
 use Rattle.xd_syntax.specs.Tree.{Tree, Empty, Text, Words, Name, Elem, Seq, Alt, Star, Plus, Opt, Val, Definitions, body, seq_of, is_empty}
-use Rattle.xd_meaning.specs.Heads.{Head, HeadKind, element_in, text_in, pieces, all_texts}
+use Rattle.xd_rules.specs.Heads.{Head, HeadKind, element_in, text_in}
+use Rattle.xd_meaning.specs.Heads.{pieces, all_texts}
 use Rattle.xd_meaning.specs.CanBeEmpty.{can_be_empty}
 
 -- a head, with its content and its rest as continuations; the content of a text is empty
@@ -61,7 +62,7 @@ unfoldable pub moves : Definitions → List Tree → List Move
 moves E K = moves_along (can_be_empty E) (moves_within E (length E)) K
 
 -- the head of a type that the move is
-abbrev pub head_of : Move → Head
+abbrev pub head_of : Move → Head Tree
 head_of m = record { kind = m.kind; content = seq_of m.content; rest = seq_of m.rest }
 
 -- neither a sequence nor empty

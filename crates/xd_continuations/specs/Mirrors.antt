@@ -6,7 +6,7 @@ use Rattle.xd_auto.specs.Automaton.{Automaton, IsState, moves_at}
 use Rattle.xd_auto.specs.declared.auto.State.{State}
 use Rattle.xd_auto.specs.declared.auto.LabelMove.{LabelMove}
 use Rattle.xd_auto.specs.declared.auto.TextMove.{TextMove}
-use Rattle.xd_meaning.specs.Heads.{element_in, text_in}
+use Rattle.xd_rules.specs.Heads.{element_in, text_in}
 use Rattle.xd_continuations.specs.Continuation.{Move, moves, IsContinuation}
 
 -- the continuation of a state, where it has one

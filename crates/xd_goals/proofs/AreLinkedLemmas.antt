@@ -4,7 +4,7 @@ use Rattle.std.specs.Cmp.Lexicographic.{pointwise}
 use Rattle.std.specs.BTreeMap.{BTreeMap}
 use Rattle.std.proofs.lemmas.List.{get_or_default}
 use Rattle.xd_auto.specs.declared.auto.State.{State}
-use Rattle.xd_rules.specs.Moves.{AreBelow, claim_with}
+use Rattle.xd_state_heads.specs.Moves.{AreBelow, claim_with}
 use Rattle.xd_goals.specs.Rows.{GoalRow, new_row, no_row, row_at, claim_at, claim_of, claim_key, IsListed, RowsBelow}
 use Rattle.xd_goals.specs.Kept.{AreLinked, AreThese, GrowsBy, IsIndexed, found_at}
 use Rattle.xd_goals.specs.declared.table.ChoiceNode.{ChoiceNode}

@@ -9,8 +9,9 @@ use Rattle.xd_doc.specs.declared.store.Seq.{Seq}
 use Rattle.xd_doc.proofs.Lists.{all_more}
 use Rattle.xd_auto.specs.declared.auto.State.{State}
 use Rattle.xd_auto.specs.Automaton.{Automaton}
-use Rattle.xd_rules.specs.Rules.{Claim, ChoiceTree, ContentLeaf, RestLeaf, SplitOn, AllLeaves}
-use Rattle.xd_rules.specs.Moves.{AreBelow, claim_with}
+use Rattle.xd_rules.specs.Rules.{Claim, ChoiceTree, settles_content, settles_rest, split_on}
+use Rattle.xd_rules.specs.Meaning.{AllLeaves}
+use Rattle.xd_state_heads.specs.Moves.{AreBelow, claim_with}
 use Rattle.xd_goals.specs.Rows.{GoalRow, TableView, no_row, row_at, claim_of, claim_at, goal_case, IsListed, IsRefuted, IsUnbroken, Leads, RowsBelow}
 use Rattle.xd_goals.specs.Kept.{IsInDoubt, IsSeenTo, Refutes}
 use Rattle.xd_goals.specs.Standing.{IsBegun, IsOpen, IsSeparatedBy}
@@ -111,9 +112,9 @@ module _ (a : Automaton) (old new : List GoalRow) (nodes : List ChoiceNode) (lin
       subst (λ (w : ChoiceTree). AllLeaves (λ n. ¬ (IsRefuted new n)) w) is (both h.has.tree h.has.listed (o h.has.tree h.has.stands))
     where
       both : (w : ChoiceTree) → AllLeaves (λ g. IsListed before g owner) w → AllLeaves (λ g. ¬ (IsRefuted old g)) w → AllLeaves (λ g. ¬ (IsRefuted new g)) w
-      both (ContentLeaf g) l n = f g l n
-      both (RestLeaf g) l n = f g l n
-      both (SplitOn j x y) l n = (both x l.0 n.0, both y l.1 n.1)
+      both (settles_content g) l n = f g l n
+      both (settles_rest g) l n = f g l n
+      both (split_on j x y) l n = (both x l.0 n.0, both y l.1 n.1)
 
   pub holds_same : (i : ℕ) (c : Claim State) (ks : List Choice) → ((place g : ℕ) → IsListed before g (goal_case i place) → ¬ (IsRefuted old g) → ¬ (IsRefuted new g))
       → ((place : ℕ) (k : Choice) → slice_get ks place ≡ Some k → ChoiceStands a before (goal_case i place) c k)

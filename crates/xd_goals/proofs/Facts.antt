@@ -8,10 +8,10 @@ use Rattle.xd_doc.specs.StoreNodes.{Keeps}
 use Rattle.xd_auto.specs.declared.auto.State.{State}
 use Rattle.xd_auto.specs.Automaton.{Automaton}
 use Rattle.xd_rules.specs.declared.atom.Atom.{Atom}
-use Rattle.xd_rules.specs.Heads.{Head, is_text_atom}
-use Rattle.xd_rules.specs.Meaning.{Separates}
-use Rattle.xd_rules.specs.Rules.{Claim, ChoiceTree, AllLeaves}
-use Rattle.xd_rules.specs.Moves.{Accepts, claim_with}
+use Rattle.xd_rules.specs.Heads.{Head}
+use Rattle.xd_rules.specs.Meaning.{is_text_atom, Separates, AllLeaves}
+use Rattle.xd_rules.specs.Rules.{Claim, ChoiceTree}
+use Rattle.xd_state_heads.specs.Moves.{Accepts, claim_with}
 use Rattle.xd_goals.specs.Rows.{GoalRow, TableView, row_at, claim_of, claim_key, goal_case, no_view, IsRefuted, IsUnbroken, RowsBelow}
 use Rattle.xd_goals.specs.Kept.{GrowsBy, IsIndexed, found_at}
 use Rattle.xd_goals.specs.Trees.{IsTreeBySort}

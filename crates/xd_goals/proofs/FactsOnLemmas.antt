@@ -10,7 +10,7 @@ use Rattle.xd_doc.proofs.Lists.{all_more}
 use Rattle.xd_auto.specs.declared.auto.State.{State}
 use Rattle.xd_auto.specs.Automaton.{Automaton}
 use Rattle.xd_rules.specs.Rules.{Claim}
-use Rattle.xd_rules.specs.Moves.{IsInOrder, claim_with, is_last_in}
+use Rattle.xd_state_heads.specs.Moves.{IsInOrder, claim_with, is_last_in}
 use Rattle.xd_goals.specs.Rows.{GoalRow, TableView, no_row, claim_at, claim_of, claim_key, goal_case, row_at, IsRefuted}
 use Rattle.xd_goals.specs.Kept.{AreLinked, AreNodes, Grows, GrowsBy, IsConsistent, IsIndexed, IsMarking, IsWhole, Refutes, found_at, view_of, with_mark}
 use Rattle.xd_goals.specs.Standing.{IsBegun, IsOpen, IsSeparatedBy, KeepsGoals}

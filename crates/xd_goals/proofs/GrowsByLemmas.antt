@@ -14,7 +14,7 @@ use Rattle.xd_doc.proofs.Lists.{there_front, last_at}
 use Rattle.xd_auto.specs.declared.auto.State.{State}
 use Rattle.xd_auto.proofs.Closed.{same_state}
 use Rattle.xd_rules.specs.Rules.{Claim}
-use Rattle.xd_rules.specs.Moves.{AreBelow, claim_with}
+use Rattle.xd_state_heads.specs.Moves.{AreBelow, claim_with}
 use Rattle.xd_goals.specs.Rows.{GoalRow, TableView, new_row, no_row, row_at, claim_of, claim_at, claim_key, state_numbers, IsListed, Leads, here, behind, IsRowBelow, RowsBelow}
 use Rattle.xd_goals.specs.Kept.{AreLinked, AreThese, BeginsWith, GrowsBy, IsIndexed, IsNew, IsSameButMarks, IsSameGoal, found_at}
 use Rattle.xd_goals.specs.declared.table.ChoiceNode.{ChoiceNode}

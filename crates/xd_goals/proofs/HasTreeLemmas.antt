@@ -3,8 +3,9 @@ use Rattle.std.proofs.Common.{ℕ, ◌<◌, ◌≡◌, arith, ⊎_elim, List, le
 use Rattle.std.specs.List.{slice_get}
 use Rattle.std.proofs.lemmas.Bool.{cases_eq, cases_lt}
 use Rattle.xd_auto.specs.declared.auto.State.{State}
-use Rattle.xd_rules.specs.Rules.{ChoiceTree, ContentLeaf, RestLeaf, SplitOn, AllLeaves}
-use Rattle.xd_rules.specs.Moves.{claim_with, with_state}
+use Rattle.xd_rules.specs.Rules.{ChoiceTree, settles_content, settles_rest, split_on}
+use Rattle.xd_rules.specs.Meaning.{AllLeaves}
+use Rattle.xd_state_heads.specs.Moves.{claim_with, with_state}
 use Rattle.xd_goals.specs.Rows.{TableView, IsListed, IsRefuted}
 use Rattle.xd_goals.specs.Kept.{Grows}
 use Rattle.xd_goals.specs.Trees.{StandsAt, AreApart, IsFree, IsGrown, IsNumbered, HasTree, HasOpenTree, IsSplitAt}
@@ -12,7 +13,7 @@ use Rattle.xd_goals.specs.declared.table.ChoiceNode.{ChoiceNode}
 use Rattle.xd_goals.specs.declared.table.ChoiceNode.TheVariants.{Split, Content, Rest}
 use Rattle.xd_goals.specs.declared.table.GoalCase.{GoalCase}
 use Rattle.xd_goals.specs.declared.table.GoalId.{GoalId}
-use Rattle.xd_rules.specs.declared.heads.Side.{Side}
+use Rattle.xd_state_heads.specs.declared.heads.Side.{Side}
 use Rattle.xd_goals.specs.declared.grow.Task.{Task}
 use Rattle.xd_goals.proofs.GrowsByLemmas.{claim_within}
 use Rattle.xd_goals.proofs.Trees.{StandsAt-within}
@@ -52,9 +53,9 @@ module _ (t : TableView) (task : Task) (sides : List Side) (contents rests : Lis
   tree_parts right x y h e = go h.tree h.stands h.kind h.listed
     where
       go : (tree : ChoiceTree) → StandsAt t.nodes root tree → Kind tree → AllLeaves (λ g. IsListed t g owner) tree → HasParts right x y
-      go (ContentLeaf g) s k l = absurd (cc)
-      go (RestLeaf g) s k l = absurd (cc)
-      go (SplitOn j a b) s k l =
+      go (settles_content g) s k l = absurd (cc)
+      go (settles_rest g) s k l = absurd (cc)
+      go (split_on j a b) s k l =
           let both : Some (Split j s.0 s.1) ≡ Some (Split right x y) = sym s.2 ∙ e in
           let jr : j ≡ right = ap number_in both in
           let xs : s.0 ≡ x = ap content_in both in
@@ -74,21 +75,21 @@ module _ (t : TableView) (task : Task) (sides : List Side) (contents rests : Lis
   content_there g h e = go h.tree h.stands h.kind
     where
       go : (tree : ChoiceTree) → StandsAt t.nodes root tree → Kind tree → g.number < length t.rows
-      go (ContentLeaf n) s k =
+      go (settles_content n) s k =
           let same : n ≡ g.number = ap number_in (sym s ∙ e) in
           subst (λ (m : ℕ). m < length t.rows) same (claim_within t.rows n (claim_with task.content contents) k).0
-      go (RestLeaf n) s k = absurd (cc)
-      go (SplitOn j a b) s k = let n = s.2 in absurd (cc)
+      go (settles_rest n) s k = absurd (cc)
+      go (split_on j a b) s k = let n = s.2 in absurd (cc)
 
   pub rest_there : (g : GoalId) → HasTree t Kind owner root → slice_get t.nodes root ≡ Some (Rest g) → g.number < length t.rows
   rest_there g h e = go h.tree h.stands h.kind
     where
       go : (tree : ChoiceTree) → StandsAt t.nodes root tree → Kind tree → g.number < length t.rows
-      go (ContentLeaf n) s k = absurd (cc)
-      go (RestLeaf n) s k =
+      go (settles_content n) s k = absurd (cc)
+      go (settles_rest n) s k =
           let same : n ≡ g.number = ap number_in (sym s ∙ e) in
           subst (λ (m : ℕ). m < length t.rows) same (claim_within t.rows n (claim_with task.rest rests) k).0
-      go (SplitOn j a b) s k = let n = s.2 in absurd (cc)
+      go (split_on j a b) s k = let n = s.2 in absurd (cc)
 
 -- a tree that is one leaf is open where the goal isn't refuted
 module _ (t : TableView) (Kind : ChoiceTree → Type 0) (owner : GoalCase) (root : ℕ) where
@@ -96,17 +97,17 @@ module _ (t : TableView) (Kind : ChoiceTree → Type 0) (owner : GoalCase) (root
   content_open g h e o = record { has = h; open_ = go h.tree h.stands }
     where
       go : (tree : ChoiceTree) → StandsAt t.nodes root tree → AllLeaves (λ k. ¬ (IsRefuted t.rows k)) tree
-      go (ContentLeaf n) s = let same : n ≡ g.number = ap number_in (sym s ∙ e) in subst (λ (m : ℕ). ¬ (IsRefuted t.rows m)) (sym same) o
-      go (RestLeaf n) s = absurd (cc)
-      go (SplitOn j a b) s = let n = s.2 in absurd (cc)
+      go (settles_content n) s = let same : n ≡ g.number = ap number_in (sym s ∙ e) in subst (λ (m : ℕ). ¬ (IsRefuted t.rows m)) (sym same) o
+      go (settles_rest n) s = absurd (cc)
+      go (split_on j a b) s = let n = s.2 in absurd (cc)
 
   pub rest_open : (g : GoalId) → (h : HasTree t Kind owner root) → slice_get t.nodes root ≡ Some (Rest g) → ¬ (IsRefuted t.rows g.number) → HasOpenTree t Kind owner root
   rest_open g h e o = record { has = h; open_ = go h.tree h.stands }
     where
       go : (tree : ChoiceTree) → StandsAt t.nodes root tree → AllLeaves (λ k. ¬ (IsRefuted t.rows k)) tree
-      go (ContentLeaf n) s = absurd (cc)
-      go (RestLeaf n) s = let same : n ≡ g.number = ap number_in (sym s ∙ e) in subst (λ (m : ℕ). ¬ (IsRefuted t.rows m)) (sym same) o
-      go (SplitOn j a b) s = let n = s.2 in absurd (cc)
+      go (settles_content n) s = absurd (cc)
+      go (settles_rest n) s = let same : n ≡ g.number = ap number_in (sym s ∙ e) in subst (λ (m : ℕ). ¬ (IsRefuted t.rows m)) (sym same) o
+      go (split_on j a b) s = let n = s.2 in absurd (cc)
 
 -- of right heads that stand in order, one has a number at most
 pub same_side : (sides : List Side) (contents rests : List State) (right : ℕ) (side other : Side) → AreApart sides → right ≡ side.number → IsFree sides contents rests side → IsNumbered sides right other → other ≡ side

@@ -89,7 +89,7 @@ module _ (a : Automaton) (ds : List Document) (rows : List GoalRow) (nodes : Lis
   begun_same : IsBegun a (claim_of (row_at rows goal)) (set (row_at rows goal).choices place changed)
   begun_same =
       let b = stands.facts.begun goal (λ z. none_at (row_at rows goal).choices place k z found) in
-      record { last = b.last; named = b.named; names = b.names; complete = keys_same ∙ b.complete }
+      record { last = b.last; complete = keys_same ∙ b.complete }
 
   module _ (opens : IsOpenChoice a (record { rows = rows; nodes = nodes; links = links }) (goal_case goal place) (claim_of (row_at rows goal)) (record k { root = root })) where
     pub stands-mended : FactsOn a ds (record { rows = set rows goal (with_choice place (record k { root = root }) (row_at rows goal)); nodes = nodes; links = links })

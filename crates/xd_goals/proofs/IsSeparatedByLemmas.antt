@@ -16,11 +16,11 @@ use Rattle.xd_auto.specs.Automaton.{Automaton, accepts}
 use Rattle.xd_rules.specs.Members.{IsOneOf}
 use Rattle.xd_rules.proofs.Members.{any-one_of, one_of-any}
 use Rattle.xd_rules.specs.Rules.{Claim}
-use Rattle.xd_rules.specs.Moves.{claim_with, with_state}
+use Rattle.xd_state_heads.specs.Moves.{claim_with, with_state}
 use Rattle.xd_goals.specs.Rows.{TableView, row_at}
 use Rattle.xd_goals.specs.Trees.{IsFree, IsLeafFor, IsTaker}
 use Rattle.xd_goals.specs.Standing.{AreSeparated, IsSeparatedBy}
-use Rattle.xd_rules.specs.declared.heads.Side.{Side}
+use Rattle.xd_state_heads.specs.declared.heads.Side.{Side}
 use Rattle.xd_goals.specs.declared.table.GoalCase.{GoalCase}
 use Rattle.xd_goals.specs.declared.table.GoalId.{GoalId}
 use Rattle.xd_goals.specs.declared.table.Standing.{Standing}

@@ -13,22 +13,23 @@ use Rattle.xd_auto.specs.Automaton.{Automaton, IsState, IsClosed, moves_at}
 use Rattle.xd_auto.proofs.Closed.{moves_at-closed}
 use Rattle.xd_rules.specs.declared.atom.Atom.{Atom}
 use Rattle.xd_rules.specs.Members.{IsOneOf}
-use Rattle.xd_rules.specs.Heads.{Head, matches, is_text_atom}
-use Rattle.xd_rules.specs.Rules.{Claim, CaseKey, ChoiceTree, ContentLeaf, RestLeaf, SplitOn, AllLeaves, head_number, keyed}
-use Rattle.xd_rules.proofs.Members.{get-one_of, one_of-all, one_of-append_cases, one_of-from_map, one_of-from_flat_map, one_of-head_number}
-use Rattle.xd_rules.specs.Moves.{claim_with, heads_of, is_last_in, label_head, text_head, with_state}
+use Rattle.xd_rules.specs.Heads.{Head, matches}
+use Rattle.xd_rules.specs.Meaning.{is_text_atom, AllLeaves, keyed}
+use Rattle.xd_rules.specs.Rules.{Claim, HeadAtom, ChoiceTree, settles_content, settles_rest, split_on, numbered}
+use Rattle.xd_rules.proofs.Members.{get-one_of, one_of-all, one_of-append_cases, one_of-from_map, one_of-from_flat_map, one_of-numbered}
+use Rattle.xd_state_heads.specs.Moves.{claim_with, heads_of, is_last_in, label_head, text_head, with_state}
 use Rattle.xd_auto.specs.Kept.{Answers}
 use Rattle.xd_goals.specs.Progress.{CanBegin, CanGrow}
 use Rattle.xd_goals.specs.declared.goals.Goals.{Goals}
 use Rattle.xd_goals.specs.Rows.{GoalRow, TableView, IsRefuted, choice_key, goal_case}
 use Rattle.xd_goals.specs.Kept.{Grows}
 use Rattle.xd_goals.specs.Trees.{HasTree, HasOpenTree, IsGrown, IsTextTree, gathered, IsTreeBySort, IsFailureBySort, IsPathBelow, GrownAs}
-use Rattle.xd_rules.specs.Wants.{matching_sides, side_at, HasHead}
+use Rattle.xd_state_heads.specs.Wants.{matching_sides, side_at, HasHead}
 use Rattle.xd_goals.specs.Standing.{IsOpen, IsCaseTree, claim_sides, task_for}
 use Rattle.xd_goals.specs.Facts.{ChoiceStands, RowHolds}
 use Rattle.xd_goals.specs.Reached.{HasTreeWithin}
 use Rattle.xd_goals.specs.Cases.{AreBegun, AreSettled, FailsAt, IsCaseGrown, IsOpenChoice, case_end_of}
-use Rattle.xd_rules.specs.declared.heads.Side.{Side}
+use Rattle.xd_state_heads.specs.declared.heads.Side.{Side}
 use Rattle.xd_goals.specs.declared.grow.Task.{Task}
 use Rattle.xd_goals.specs.declared.grow.Grown.{Grown}
 use Rattle.xd_goals.specs.declared.grow.Grown.TheVariants.{Stands, Fails}
@@ -93,7 +94,7 @@ module _ (a : Automaton) (owner : GoalCase) (c : Claim State) (number : ℕ) (at
 
   pub case_path : IsClosed a → IsState a c.left → AllByRecursion (IsState a) c.rights → IsPathBelow states task_of sides [] []
   case_path closed left rights =
-      let h = heads_below a closed c.left left has.of_head (one_of-head_number has.of_head (heads_of a c.left) number has.found) in
+      let h = heads_below a closed c.left left has.of_head (one_of-numbered has.of_head (heads_of a c.left) number has.found) in
       record {
         content_below = rw (count, has.content_is) h.0;
         rest_below = rw (count, has.rest_is) h.1;
@@ -151,7 +152,7 @@ module _ (a : Automaton) (owner : GoalCase) (c : Claim State) (number : ℕ) (at
     case_fails inside behind k = record {
       owner = owner;
       of_head = has.of_head;
-      among = one_of-head_number has.of_head (heads_of a c.left) number has.found;
+      among = one_of-numbered has.of_head (heads_of a c.left) number has.found;
       matched = matched;
       fails = failure_to text is ds t.rows inside behind k;
     }
@@ -178,7 +179,7 @@ module _ (a : Automaton) (owner : GoalCase) (c : Claim State) (number : ℕ) (at
       }
 
 -- a head that a choice has, by its number
-pub head_within : (hs : List (Head State)) (number : ℕ) (h : Head State) → head_number hs number ≡ Some h → (0 < number) × (number ≤ length hs)
+pub head_within : (hs : List (Head State)) (number : ℕ) (h : Head State) → numbered hs number ≡ Some h → (0 < number) × (number ≤ length hs)
 head_within hs zero h e = absurd (cc)
 head_within hs (suc k) h e = let w = slice_get_within hs k h e in (omega arith, omega arith)
 
@@ -194,14 +195,14 @@ pub leaves_there : (a : Automaton) (t : TableView) (owner : GoalCase) (c : Claim
 leaves_there a t owner c k h = record { tree = h.has.tree; stands = h.has.stands; within = go (is_text_atom k.atom) h.has.tree h.has.kind }
   where
     grown : (tree : ChoiceTree) (contents rests : List State) → IsGrown t.rows (task_for a owner h.head) (claim_sides a c k.atom) tree contents rests → AllLeaves (λ g. g < length t.rows) tree
-    grown (ContentLeaf g) contents rests x = (claim_within t.rows g (claim_with h.head.content contents) x).0
-    grown (RestLeaf g) contents rests x = (claim_within t.rows g (claim_with h.head.rest rests) x).0
-    grown (SplitOn j x y) contents rests w = (grown x (with_state w.0.content contents) rests w.3, grown y contents (with_state w.0.rest rests) w.4)
+    grown (settles_content g) contents rests x = (claim_within t.rows g (claim_with h.head.content contents) x).0
+    grown (settles_rest g) contents rests x = (claim_within t.rows g (claim_with h.head.rest rests) x).0
+    grown (split_on j x y) contents rests w = (grown x (with_state w.0.content contents) rests w.3, grown y contents (with_state w.0.rest rests) w.4)
 
     text_tree : (tree : ChoiceTree) → IsTextTree t.rows (task_for a owner h.head) (claim_sides a c k.atom) tree → AllLeaves (λ g. g < length t.rows) tree
-    text_tree (ContentLeaf g) x = absurd x
-    text_tree (RestLeaf g) x = (claim_within t.rows g (claim_with h.head.rest (gathered [] (claim_sides a c k.atom))) x).0
-    text_tree (SplitOn j x y) w = absurd w
+    text_tree (settles_content g) x = absurd x
+    text_tree (settles_rest g) x = (claim_within t.rows g (claim_with h.head.rest (gathered [] (claim_sides a c k.atom))) x).0
+    text_tree (split_on j x y) w = absurd w
 
     go : (b : Bool) (tree : ChoiceTree) → IsTreeBySort b t.rows (task_for a owner h.head) (claim_sides a c k.atom) tree → AllLeaves (λ g. g < length t.rows) tree
     go true tree x = text_tree tree x
@@ -212,10 +213,10 @@ module _ (a : Automaton) (s t : TableView) (g : Grows s t) (goal : ℕ) (c : Cla
   open_choice_still : (owner : GoalCase) (k : Choice) → IsOpenChoice a s owner c k → IsOpenChoice a t owner c k
   open_choice_still owner k h = record { stands = choice-grows a s t g owner c k h.stands; opens = open_choice-grows a s t g owner c k h.stands h.opens }
 
-  pub begun_more : {X : Type 0} (key : X → CaseKey) (xs : List X) (i : ℕ) (x : X) (made made2 : List Choice) (k : Choice) → i < length xs → x ≡ get_or xs i x → choice_key k ≡ key x
+  pub begun_more : {X : Type 0} (key : X → HeadAtom) (xs : List X) (i : ℕ) (x : X) (made made2 : List Choice) (k : Choice) → i < length xs → x ≡ get_or xs i x → choice_key k ≡ key x
       → AreBegun a s goal c (map key (take i xs)) made → IsOpenChoice a t (goal_case goal i) c k → made2 ≡ made ++ k ∷ [] → AreBegun a t goal c (map key (take (i + 1) xs)) made2
   begun_more key xs i x made made2 k lt e same h o m = subst (λ (ks : List Choice). AreBegun a t goal c (map key (take (i + 1) xs)) ks) (sym m) (record {
-    keys_are = map-append choice_key made (k ∷ []) ∙ ap (λ (ks : List CaseKey). ks ++ choice_key k ∷ []) h.keys_are ∙ ap (λ (q : CaseKey). map key (take i xs) ++ q ∷ []) same
+    keys_are = map-append choice_key made (k ∷ []) ∙ ap (λ (ks : List HeadAtom). ks ++ choice_key k ∷ []) h.keys_are ∙ ap (λ (q : HeadAtom). map key (take i xs) ++ q ∷ []) same
         ∙ sym (map-take_more key xs i x lt e);
     open_choices = λ place y at. ⊎_elim
         (λ old. open_choice_still (goal_case goal place) y (h.open_choices place y old))
@@ -229,7 +230,7 @@ module _ (a : Automaton) (s t : TableView) (g : Grows s t) (goal : ℕ) (c : Cla
 -- a goal whose cases are all settled holds
 pub settled_holds : (a : Automaton) (t : TableView) (goal : ℕ) (c : Claim State) (ks : List Choice) → (is_last_in a c.left ≡ true → list_any (is_last_in a) c.rights ≡ true) → AreSettled a t goal c ks → RowHolds a t c ks
 settled_holds a t goal c ks last h = record {
-  begun = record { last = last; named = h.named; names = h.names; complete = h.complete };
+  begun = record { last = last; complete = h.complete };
   opens = all_places (IsOpen t) ks (λ place k e. (h.open_choices place k e).opens);
 }
 

@@ -6,14 +6,16 @@ use Rattle.std.proofs.lemmas.List.{get_or_past, get_or_append_left, get_or_defau
 use Rattle.std.proofs.lemmas.Option.{slice_get_within, get_or_from_slice_get}
 use Rattle.std.proofs.Math.Seq.{get_or-append_seam}
 use Rattle.xd_doc.proofs.Lists.{all_push, all_more}
-use Rattle.xd_rules.specs.Rules.{ChoiceTree, ContentLeaf, RestLeaf, SplitOn, AllLeaves}
+use Rattle.xd_rules.specs.Rules.{ChoiceTree, settles_content, settles_rest, split_on}
+use Rattle.xd_rules.specs.Meaning.{AllLeaves}
 use Rattle.xd_goals.specs.Rows.{GoalRow, TableView, IsRefuted, no_row, row_at}
 use Rattle.xd_goals.specs.Trees.{StandsAt}
 use Rattle.xd_goals.specs.Reached.{is_marked, HasLeaf, IsLeafAt, IsWaitingIn, LeadsToMarked, HasTreeWithin, unmarked, AreClosed, IsPassed, IsSettled, IsWalk, MarksThese, ReachesMore, IsWalked, marks_of}
 use Rattle.xd_goals.specs.Kept.{with_mark}
 use Rattle.xd_goals.specs.Facts.{IsSettledRow, LeadsToSettled, StaySettled}
 use Rattle.xd_goals.specs.Standing.{IsOpen}
-use Rattle.xd_rules.specs.Members.{IsOneOf, SomeOf}
+use Rattle.xd_rules.specs.Members.{IsOneOf}
+use Rattle.xd_rules.specs.Listed.{SomeOf}
 use Rattle.xd_rules.proofs.Members.{get-one_of, one_of-all, one_of-append_cases, one_of-append_left, one_of-append_right}
 use Rattle.xd_goals.specs.declared.table.Choice.{Choice}
 use Rattle.xd_goals.specs.declared.table.ChoiceNode.{ChoiceNode}
@@ -85,17 +87,17 @@ module _ (nodes : List ChoiceNode) (n root : ℕ) (h : HasTreeWithin nodes n roo
   content_within g e = go h.tree h.stands h.within
     where
       go : (tree : ChoiceTree) → StandsAt nodes root tree → AllLeaves (λ k. k < n) tree → g.number < n
-      go (ContentLeaf k) s w = let same : k ≡ g.number = ap number_in (sym s ∙ e) in subst (λ (m : ℕ). m < n) same w
-      go (RestLeaf k) s w = absurd (cc)
-      go (SplitOn j a b) s w = let x = s.2 in absurd (cc)
+      go (settles_content k) s w = let same : k ≡ g.number = ap number_in (sym s ∙ e) in subst (λ (m : ℕ). m < n) same w
+      go (settles_rest k) s w = absurd (cc)
+      go (split_on j a b) s w = let x = s.2 in absurd (cc)
 
   pub rest_within : (g : GoalId) → slice_get nodes root ≡ Some (Rest g) → g.number < n
   rest_within g e = go h.tree h.stands h.within
     where
       go : (tree : ChoiceTree) → StandsAt nodes root tree → AllLeaves (λ k. k < n) tree → g.number < n
-      go (ContentLeaf k) s w = absurd (cc)
-      go (RestLeaf k) s w = let same : k ≡ g.number = ap number_in (sym s ∙ e) in subst (λ (m : ℕ). m < n) same w
-      go (SplitOn j a b) s w = let x = s.2 in absurd (cc)
+      go (settles_content k) s w = absurd (cc)
+      go (settles_rest k) s w = let same : k ≡ g.number = ap number_in (sym s ∙ e) in subst (λ (m : ℕ). m < n) same w
+      go (split_on j a b) s w = let x = s.2 in absurd (cc)
 
   pub record HasPartsWithin (x y : ℕ) : Type 0 where
     pub content : HasTreeWithin nodes n x
@@ -107,9 +109,9 @@ module _ (nodes : List ChoiceNode) (n root : ℕ) (h : HasTreeWithin nodes n roo
   parts_within right x y e = go h.tree h.stands h.within
     where
       go : (tree : ChoiceTree) → StandsAt nodes root tree → AllLeaves (λ k. k < n) tree → HasPartsWithin x y
-      go (ContentLeaf k) s w = absurd (cc)
-      go (RestLeaf k) s w = absurd (cc)
-      go (SplitOn j a b) s w =
+      go (settles_content k) s w = absurd (cc)
+      go (settles_rest k) s w = absurd (cc)
+      go (split_on j a b) s w =
           let both : Some (Split j s.0 s.1) ≡ Some (Split right x y) = sym s.2 ∙ e in
           let xs : s.0 ≡ x = ap content_in both in
           let ys : s.1 ≡ y = ap rest_in both in
@@ -125,19 +127,19 @@ abbrev pub LeavesAt : List ChoiceNode → (ℕ → Type 0) → ℕ → Type 0
 LeavesAt nodes P root = (tree : ChoiceTree) → StandsAt nodes root tree → AllLeaves P tree
 
 pub leaves_content : (nodes : List ChoiceNode) (P : ℕ → Type 0) (root : ℕ) (g : GoalId) → slice_get nodes root ≡ Some (Content g) → P g.number → LeavesAt nodes P root
-leaves_content nodes P root g e p (ContentLeaf k) s = let same : k ≡ g.number = ap number_in (sym s ∙ e) in subst P (sym same) p
-leaves_content nodes P root g e p (RestLeaf k) s = absurd (cc)
-leaves_content nodes P root g e p (SplitOn j a b) s = let x = s.2 in absurd (cc)
+leaves_content nodes P root g e p (settles_content k) s = let same : k ≡ g.number = ap number_in (sym s ∙ e) in subst P (sym same) p
+leaves_content nodes P root g e p (settles_rest k) s = absurd (cc)
+leaves_content nodes P root g e p (split_on j a b) s = let x = s.2 in absurd (cc)
 
 pub leaves_rest : (nodes : List ChoiceNode) (P : ℕ → Type 0) (root : ℕ) (g : GoalId) → slice_get nodes root ≡ Some (Rest g) → P g.number → LeavesAt nodes P root
-leaves_rest nodes P root g e p (ContentLeaf k) s = absurd (cc)
-leaves_rest nodes P root g e p (RestLeaf k) s = let same : k ≡ g.number = ap number_in (sym s ∙ e) in subst P (sym same) p
-leaves_rest nodes P root g e p (SplitOn j a b) s = let x = s.2 in absurd (cc)
+leaves_rest nodes P root g e p (settles_content k) s = absurd (cc)
+leaves_rest nodes P root g e p (settles_rest k) s = let same : k ≡ g.number = ap number_in (sym s ∙ e) in subst P (sym same) p
+leaves_rest nodes P root g e p (split_on j a b) s = let x = s.2 in absurd (cc)
 
 pub leaves_split : (nodes : List ChoiceNode) (P : ℕ → Type 0) (root right x y : ℕ) → slice_get nodes root ≡ Some (Split right x y) → LeavesAt nodes P x → LeavesAt nodes P y → LeavesAt nodes P root
-leaves_split nodes P root right x y e h k (ContentLeaf n) s = absurd (cc)
-leaves_split nodes P root right x y e h k (RestLeaf n) s = absurd (cc)
-leaves_split nodes P root right x y e h k (SplitOn j a b) s =
+leaves_split nodes P root right x y e h k (settles_content n) s = absurd (cc)
+leaves_split nodes P root right x y e h k (settles_rest n) s = absurd (cc)
+leaves_split nodes P root right x y e h k (split_on j a b) s =
     let both : Some (Split j s.0 s.1) ≡ Some (Split right x y) = sym s.2 ∙ e in
     let xs : s.0 ≡ x = ap content_in both in
     let ys : s.1 ≡ y = ap rest_in both in
@@ -158,26 +160,26 @@ passed-more t m m2 g f (inr h) = inr (h.0, leads-more t.nodes m m2 (row_at t.row
 
 -- a leaf of a tree has what all leaves have
 pub leaf_has : (P : ℕ → Type 0) (tree : ChoiceTree) (g : ℕ) → AllLeaves P tree → HasLeaf g tree → P g
-leaf_has P (ContentLeaf k) g h e = subst P e h
-leaf_has P (RestLeaf k) g h e = subst P e h
-leaf_has P (SplitOn j a b) g h e = ⊎_elim (λ l. leaf_has P a g h.0 l) (λ r. leaf_has P b g h.1 r) e
+leaf_has P (settles_content k) g h e = subst P e h
+leaf_has P (settles_rest k) g h e = subst P e h
+leaf_has P (split_on j a b) g h e = ⊎_elim (λ l. leaf_has P a g h.0 l) (λ r. leaf_has P b g h.1 r) e
 
 pub leaf_content : (nodes : List ChoiceNode) (root : ℕ) (g : GoalId) (k : ℕ) → slice_get nodes root ≡ Some (Content g) → g.number ≡ k → IsLeafAt nodes root k
-leaf_content nodes root g k e same = record { tree = ContentLeaf g.number; stands = e; leaf = same }
+leaf_content nodes root g k e same = record { tree = settles_content g.number; stands = e; leaf = same }
 
 pub leaf_rest : (nodes : List ChoiceNode) (root : ℕ) (g : GoalId) (k : ℕ) → slice_get nodes root ≡ Some (Rest g) → g.number ≡ k → IsLeafAt nodes root k
-leaf_rest nodes root g k e same = record { tree = RestLeaf g.number; stands = e; leaf = same }
+leaf_rest nodes root g k e same = record { tree = settles_rest g.number; stands = e; leaf = same }
 
 -- a leaf of a part is one of the whole, where a tree stands
 pub leaf_of_content : (nodes : List ChoiceNode) (n root right x y k : ℕ) → HasTreeWithin nodes n root → slice_get nodes root ≡ Some (Split right x y) → IsLeafAt nodes x k → IsLeafAt nodes root k
 leaf_of_content nodes n root right x y k h e l =
     let p = parts_within nodes n root h right x y e in
-    record { tree = SplitOn right l.tree p.rest.tree; stands = (x, y, e, p.content_older, p.rest_older, l.stands, p.rest.stands); leaf = inl l.leaf }
+    record { tree = split_on right l.tree p.rest.tree; stands = (x, y, e, p.content_older, p.rest_older, l.stands, p.rest.stands); leaf = inl l.leaf }
 
 pub leaf_of_rest : (nodes : List ChoiceNode) (n root right x y k : ℕ) → HasTreeWithin nodes n root → slice_get nodes root ≡ Some (Split right x y) → IsLeafAt nodes y k → IsLeafAt nodes root k
 leaf_of_rest nodes n root right x y k h e l =
     let p = parts_within nodes n root h right x y e in
-    record { tree = SplitOn right p.content.tree l.tree; stands = (x, y, e, p.content_older, p.rest_older, p.content.stands, l.stands); leaf = inr l.leaf }
+    record { tree = split_on right p.content.tree l.tree; stands = (x, y, e, p.content_older, p.rest_older, p.content.stands, l.stands); leaf = inr l.leaf }
 
 -- what was marked newly is a leaf
 abbrev pub MarksOnly : List Bool → List Bool → (ℕ → Type 0) → Type 0

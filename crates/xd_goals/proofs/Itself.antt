@@ -4,7 +4,8 @@ use Rattle.std.specs.List.{AllByRecursion}
 use Rattle.std.proofs.lemmas.Bool.{cases_lt}
 use Rattle.xd_doc.specs.Document.{Document}
 use Rattle.xd_auto.specs.Automaton.{Automaton}
-use Rattle.xd_rules.specs.Rules.{ChoiceTree, AllLeaves}
+use Rattle.xd_rules.specs.Rules.{ChoiceTree}
+use Rattle.xd_rules.specs.Meaning.{AllLeaves}
 use Rattle.xd_goals.specs.Rows.{GoalRow, TableView, row_at, goal_case, no_view, HasRoot, IsListed, Leads, here, behind, NodeStands}
 use Rattle.xd_goals.specs.Kept.{AreNodes}
 use Rattle.xd_goals.specs.Standing.{StandsOn, StandsOnAutomaton}

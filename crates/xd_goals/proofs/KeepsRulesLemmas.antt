@@ -1,18 +1,21 @@
 -- The trees of a table keep the rules.
-use Rattle.std.proofs.Common.{ℕ, zero, suc, ◌+◌, ◌<◌, ◌≤◌, ◌≡◌, Bool, true, false, cond, List, [], ◌∷◌, map, Some, ◌⊎◌, inl, inr, ⊎_elim, sym, refl, ap, subst, ◌∙◌, arith}
-use Rattle.std.specs.List.{slice_get, filter, AllByRecursion}
+use Rattle.std.proofs.Common.{ℕ, zero, suc, ◌+◌, ◌<◌, ◌≤◌, ◌≡◌, Bool, true, false, cond, List, [], ◌∷◌, Some, ◌⊎◌, inl, inr, ⊎_elim, sym, refl, ap, subst, ◌∙◌, arith}
+use Rattle.std.specs.List.{slice_get, AllByRecursion}
 use Rattle.xd_auto.specs.declared.auto.State.{State}
 use Rattle.xd_auto.specs.Automaton.{Automaton}
 use Rattle.xd_rules.specs.declared.atom.Atom.{Atom}
+use Rattle.xd_rules.specs.declared.atom.Atom.TheVariants.{Label, OtherLabel, Text, OtherText}
+use Rattle.xd_rules.proofs.Walk.{matching_at}
 use Rattle.xd_rules.specs.Members.{IsOneOf}
-use Rattle.xd_rules.specs.Heads.{Head, matches, is_text_atom}
-use Rattle.xd_rules.specs.Rules.{Claim, ChoiceTree, ContentLeaf, RestLeaf, SplitOn, LeafKeeps, TreeKeeps, TextKeeps, KeepsBySort, CaseKeeps, head_number, matching_rests, right_heads}
-use Rattle.xd_rules.specs.Moves.{claim_with, with_state, heads_of}
+use Rattle.xd_rules.specs.Heads.{Head, matches}
+use Rattle.xd_rules.specs.Meaning.{right_heads}
+use Rattle.xd_rules.specs.Rules.{Claim, ChoiceTree, settles_content, settles_rest, split_on, numbered, matching, Sides, no_sides, on_content, on_rest, HasPart, LeafRule, LabelTree, TextTree, TreeRule}
+use Rattle.xd_state_heads.specs.Moves.{claim_with, with_state, heads_of}
 use Rattle.xd_goals.specs.Rows.{GoalRow, claim_at}
-use Rattle.xd_goals.specs.Trees.{AreApart, IsFree, IsGrown, IsTextTree, IsTreeBySort, gathered}
-use Rattle.xd_rules.specs.Wants.{side_at, matching_sides}
-use Rattle.xd_goals.specs.Standing.{IsCaseTree, claim_sides, task_for}
-use Rattle.xd_rules.specs.declared.heads.Side.{Side}
+use Rattle.xd_goals.specs.Trees.{AreApart, IsFree, IsGrown, IsTextTree, gathered}
+use Rattle.xd_state_heads.specs.Wants.{side_at, matching_sides}
+use Rattle.xd_goals.specs.Standing.{IsCaseTree, task_for}
+use Rattle.xd_state_heads.specs.declared.heads.Side.{Side}
 use Rattle.xd_goals.specs.declared.table.GoalCase.{GoalCase}
 use Rattle.xd_goals.proofs.Trees.{with_state-from, with_state-keeps, with_state-has}
 use Rattle.xd_goals.proofs.HasTreeLemmas.{same_side}
@@ -85,73 +88,77 @@ side_of_head atom k (g ∷ hs) h m e = elim m [ inl same ↦ here_ (matches g.ki
     there_ true f = (suc f.0, f.1, f.2, f.3, f.4)
     there_ false f = f
 
--- all of the one list stand in the other
-abbrev pub AreIn : List State → List State → Type 0
-AreIn xs ys = (s : State) → IsOneOf s xs → IsOneOf s ys
+-- each of the states is this part of a right head with one of the numbers
+abbrev AreOn : (Head State → State) → List (Head State) → List State → List ℕ → Type 0
+AreOn part hs states ns = (s : State) → IsOneOf s states → HasPart part hs ns s
 
-all_in : (xs ys : List State) → AreIn xs ys → AllByRecursion (λ r. IsOneOf r ys) xs
-all_in [] ys h = tt
-all_in (x ∷ xs) ys h = (h x (inl refl), all_in xs ys (λ s m. h s (inr m)))
+leaf_keeps : (part : Head State → State) (rows : List GoalRow) (g : ℕ) (left : Head State) (hs : List (Head State)) (rights : List State) (ns : List ℕ) → AreOn part hs rights ns
+    → claim_at rows g ≡ Some (claim_with (part left) rights) → LeafRule part (claim_at rows) left hs ns g
+leaf_keeps part rows g left hs rights ns on e = record { claim = claim_with (part left) rights; stands = e; same_left = refl; rights_stand = all_on rights on }
+  where
+    all_on : (ss : List State) → AreOn part hs ss ns → AllByRecursion (HasPart part hs ns) ss
+    all_on [] h = tt
+    all_on (s ∷ ss) h = (h s (inl refl), all_on ss (λ x m. h x (inr m)))
 
-more_in : (s : State) (xs ys : List State) → AreIn xs ys → AreIn (with_state s xs) (s ∷ ys)
-more_in s xs ys h k m = ⊎_elim (λ e. inl e) (λ r. inr (h k r)) (with_state-from s k xs m)
+on_more : (part : Head State → State) (hs : List (Head State)) (states : List State) (ns : List ℕ) (n : ℕ) (h : Head State) → numbered hs n ≡ Some h → AreOn part hs states ns → AreOn part hs (with_state (part h) states) (n ∷ ns)
+on_more part hs states ns n h at on s m =
+    ⊎_elim (λ e. (n, h, inl refl, at, e)) (λ r. let p = on s r in (p.0, p.1, inr p.2, p.3, p.4)) (with_state-from (part h) s states m)
 
-leaf_keeps : (rows : List GoalRow) (g : ℕ) (left : State) (rights allowed : List State) → AreIn rights allowed → claim_at rows g ≡ Some (claim_with left rights) → LeafKeeps (claim_at rows) g left allowed
-leaf_keeps rows g left rights allowed h e = record { claim = claim_with left rights; found = e; same_left = refl; rights_allowed = all_in rights allowed h }
+-- the right heads of these numbers have their parts among the states
+abbrev AreSeen : (Side → State) → List Side → List ℕ → List State → Type 0
+AreSeen part sides ns states = (j : ℕ) → IsOneOf j ns → (i : ℕ) × (t : Side) × (slice_get sides i ≡ Some t) × (t.number ≡ j) × IsOneOf (part t) states
 
--- the heads that a path has split on stand on its sides
-abbrev pub AreSeen : List Side → List ℕ → List State → List State → Type 0
-AreSeen sides seen contents rests = (j : ℕ) → IsOneOf j seen → (i : ℕ) × (t : Side) × (slice_get sides i ≡ Some t) × (t.number ≡ j) × (IsOneOf t.content contents ⊎ IsOneOf t.rest rests)
+seen_more : (part : Side → State) (sides : List Side) (ns : List ℕ) (states : List State) (j : ℕ) (side : Side) (place : ℕ) → slice_get sides place ≡ Some side → j ≡ side.number → (s : State) → s ≡ part side
+    → AreSeen part sides ns states → AreSeen part sides (j ∷ ns) (with_state s states)
+seen_more part sides ns states j side place at e s is seen i (inl q) = (place, side, at, sym e ∙ q, subst (λ (w : State). IsOneOf w (with_state s states)) is (with_state-has s states))
+seen_more part sides ns states j side place at e s is seen i (inr m) = let was = seen i m in (was.0, was.1, was.2, was.3, with_state-keeps s (part was.1) states was.4)
 
--- a head that is free was not seen
-not_seen : (sides : List Side) → AreApart sides → (seen : List ℕ) (contents rests : List State) → AreSeen sides seen contents rests → (side : Side) → IsFree sides contents rests side → ¬ (IsOneOf side.number seen)
-not_seen sides apart seen contents rests h side free m =
-    let was = h side.number m in
-    let same = same_side sides contents rests side.number side was.1 apart refl free (record { place = was.0; found = was.2; same = was.3 }) in
-    ⊎_elim (λ c. free.content_free (subst (λ (w : Side). IsOneOf w.content contents) same c)) (λ r. free.rest_free (subst (λ (w : Side). IsOneOf w.rest rests) same r)) was.4
-
-module _ (sides : List Side) (seen : List ℕ) (contents rests : List State) (h : AreSeen sides seen contents rests) (j : ℕ) (side : Side) (e : j ≡ side.number) (place : ℕ) (at : slice_get sides place ≡ Some side) where
-  seen_content : (s : State) → s ≡ side.content → AreSeen sides (j ∷ seen) (with_state s contents) rests
-  seen_content s is i (inl q) = (place, side, at, sym e ∙ q, inl (subst (λ (w : State). IsOneOf w (with_state s contents)) is (with_state-has s contents)))
-  seen_content s is i (inr m) = let was = h i m in (was.0, was.1, was.2, was.3, ⊎_elim (λ c. inl (with_state-keeps s was.1.content contents c)) (λ r. inr r) was.4)
-
-  seen_rest : (s : State) → s ≡ side.rest → AreSeen sides (j ∷ seen) contents (with_state s rests)
-  seen_rest s is i (inl q) = (place, side, at, sym e ∙ q, inr (subst (λ (w : State). IsOneOf w (with_state s rests)) is (with_state-has s rests)))
-  seen_rest s is i (inr m) = let was = h i m in (was.0, was.1, was.2, was.3, ⊎_elim (λ c. inl c) (λ r. inr (with_state-keeps s was.1.rest rests r)) was.4)
+-- a head that is free is new to both sides
+not_seen : (part : Side → State) (sides : List Side) → AreApart sides → (ns : List ℕ) (states contents rests : List State) → AreSeen part sides ns states → (side : Side) → IsFree sides contents rests side
+    → ¬ (IsOneOf (part side) states) → (j : ℕ) → j ≡ side.number → ¬ (IsOneOf j ns)
+not_seen part sides apart ns states contents rests seen side free new j e m =
+    let was = seen j m in
+    let same = same_side sides contents rests side.number side was.1 apart refl free (record { place = was.0; found = was.2; same = was.3 ∙ e }) in
+    new (subst (λ (w : Side). IsOneOf (part w) states) same was.4)
 
 module _ (rows : List GoalRow) (a : Automaton) (owner : GoalCase) (head : Head State) (atom : Atom) (hs : List (Head State)) where
-  pub grown_keeps : (tree : ChoiceTree) (contents rests : List State) (ps qs : List State) (seen : List ℕ) → AreIn contents ps → AreIn rests qs → AreSeen (matching_sides atom 1 hs) seen contents rests
-      → IsGrown rows (task_for a owner head) (matching_sides atom 1 hs) tree contents rests → TreeKeeps (claim_at rows) head atom hs tree ps qs seen
-  grown_keeps (ContentLeaf g) contents rests ps qs seen hp hq were k = leaf_keeps rows g head.content contents ps hp k
-  grown_keeps (RestLeaf g) contents rests ps qs seen hp hq were k = leaf_keeps rows g head.rest rests qs hq k
-  grown_keeps (SplitOn j x y) contents rests ps qs seen hp hq were k =
+  abbrev sides : List Side
+  sides = matching_sides atom 1 hs
+
+  apart : AreApart (matching_sides atom 1 hs)
+  apart = record { rise = sides_rise atom 1 hs }
+
+  pub grown_keeps : (tree : ChoiceTree) (contents rests : List State) (s : Sides) → AreOn (λ h. h.content) hs contents s.content → AreOn (λ h. h.rest) hs rests s.rest
+      → AreSeen (λ t. t.content) sides s.content contents → AreSeen (λ t. t.rest) sides s.rest rests
+      → IsGrown rows (task_for a owner head) sides tree contents rests → LabelTree (claim_at rows) atom head hs s tree
+  grown_keeps (settles_content g) contents rests s hc hr sc sr k = leaf_keeps (λ h. h.content) rows g head hs contents s.content hc k
+  grown_keeps (settles_rest g) contents rests s hc hr sc sr k = leaf_keeps (λ h. h.rest) rows g head hs rests s.rest hr k
+  grown_keeps (split_on j x y) contents rests s hc hr sc sr k =
       let side = k.0 in
       let free = k.2 in
-      let s = side_at_place atom 1 hs free.place side free.found in
-      let number : j ≡ suc s.place = let n = s.number in let e = k.1 in omega arith in (
-        s.head,
-        subst (λ (n : ℕ). head_number hs n ≡ Some s.head) (sym number) s.there,
-        s.matched,
-        (λ m. not_seen (matching_sides atom 1 hs) (record { rise = sides_rise atom 1 hs }) seen contents rests were side free (subst (λ (n : ℕ). IsOneOf n seen) k.1 m)),
-        grown_keeps x (with_state s.head.content contents) rests (s.head.content ∷ ps) qs (j ∷ seen) (more_in s.head.content contents ps hp) hq
-            (seen_content (matching_sides atom 1 hs) seen contents rests were j side k.1 free.place free.found s.head.content s.content_is)
-            (subst (λ (w : State). IsGrown rows (task_for a owner head) (matching_sides atom 1 hs) x (with_state w contents) rests) (sym s.content_is) k.3),
-        grown_keeps y contents (with_state s.head.rest rests) ps (s.head.rest ∷ qs) (j ∷ seen) hp (more_in s.head.rest rests qs hq)
-            (seen_rest (matching_sides atom 1 hs) seen contents rests were j side k.1 free.place free.found s.head.rest s.rest_is)
-            (subst (λ (w : State). IsGrown rows (task_for a owner head) (matching_sides atom 1 hs) y contents (with_state w rests)) (sym s.rest_is) k.4),
+      let w = side_at_place atom 1 hs free.place side free.found in
+      let number : j ≡ suc w.place = let n = w.number in let e = k.1 in omega arith in
+      let at : numbered hs j ≡ Some w.head = subst (λ (n : ℕ). numbered hs n ≡ Some w.head) (sym number) w.there in (
+        record {
+          head = w.head;
+          stands = at;
+          fits = w.matched;
+          new_to_content = not_seen (λ t. t.content) sides apart s.content contents contents rests sc side free free.content_free j k.1;
+          new_to_rest = not_seen (λ t. t.rest) sides apart s.rest rests contents rests sr side free free.rest_free j k.1;
+        },
+        grown_keeps x (with_state w.head.content contents) rests (on_content j s) (on_more (λ h. h.content) hs contents s.content j w.head at hc) hr
+            (seen_more (λ t. t.content) sides s.content contents j side free.place free.found k.1 w.head.content w.content_is sc) sr
+            (subst (λ (v : State). IsGrown rows (task_for a owner head) sides x (with_state v contents) rests) (sym w.content_is) k.3),
+        grown_keeps y contents (with_state w.head.rest rests) (on_rest j s) hc (on_more (λ h. h.rest) hs rests s.rest j w.head at hr)
+            sc (seen_more (λ t. t.rest) sides s.rest rests j side free.place free.found k.1 w.head.rest w.rest_is sr)
+            (subst (λ (v : State). IsGrown rows (task_for a owner head) sides y contents (with_state v rests)) (sym w.rest_is) k.4),
       )
 
--- the rests of the right heads that match, gathered
-pub gathered-from : (atom : Atom) (k : ℕ) (hs : List (Head State)) (states : List State) (s : State) → IsOneOf s (gathered states (matching_sides atom k hs)) → IsOneOf s states ⊎ IsOneOf s (matching_rests atom hs)
-gathered-from atom k [] states s m = inl m
-gathered-from atom k (h ∷ hs) states s m = go (matches h.kind atom) m (λ x. gathered-from atom (suc k) hs (with_state h.rest states) s x) (λ x. gathered-from atom (suc k) hs states s x)
-  where
-    go : (b : Bool) → IsOneOf s (gathered states (cond b (side_at k h ∷ matching_sides atom (suc k) hs) (matching_sides atom (suc k) hs)))
-        → (IsOneOf s (gathered (with_state h.rest states) (matching_sides atom (suc k) hs)) → IsOneOf s (with_state h.rest states) ⊎ IsOneOf s (matching_rests atom hs))
-        → (IsOneOf s (gathered states (matching_sides atom (suc k) hs)) → IsOneOf s states ⊎ IsOneOf s (matching_rests atom hs))
-        → IsOneOf s states ⊎ IsOneOf s (map (λ (g : Head State). g.rest) (cond b (h ∷ filter (λ g. matches g.kind atom) hs) (filter (λ g. matches g.kind atom) hs)))
-    go true x one two = ⊎_elim (λ y. ⊎_elim (λ e. inr (inl e)) (λ r. inl r) (with_state-from h.rest s states y)) (λ y. inr (inr y)) (one x)
-    go false x one two = two x
+-- the rests of right heads, gathered
+gathered-from : (sides : List Side) (states : List State) (s : State) → IsOneOf s (gathered states sides) → IsOneOf s states ⊎ ((i : ℕ) × (t : Side) × (slice_get sides i ≡ Some t) × (t.rest ≡ s))
+gathered-from [] states s m = inl m
+gathered-from (x ∷ xs) states s m =
+    ⊎_elim (λ y. ⊎_elim (λ e. inr (zero, x, refl, e)) (λ r. inl r) (with_state-from x.rest s states y)) (λ f. inr (suc f.0, f.1, f.2, f.3)) (gathered-from xs (with_state x.rest states) s m)
 
 pub gathered-keeps : (sides : List Side) (states : List State) (s : State) → IsOneOf s states → IsOneOf s (gathered states sides)
 gathered-keeps [] states s m = m
@@ -164,18 +171,27 @@ gathered-has (x ∷ xs) states zero side e =
     subst (λ (w : Side). IsOneOf w.rest (gathered (with_state x.rest states) xs)) same (gathered-keeps xs (with_state x.rest states) x.rest (with_state-has x.rest states))
 gathered-has (x ∷ xs) states (suc i) side e = gathered-has xs (with_state x.rest states) i side e
 
-text_keeps : (rows : List GoalRow) (a : Automaton) (owner : GoalCase) (head : Head State) (atom : Atom) (hs : List (Head State)) (tree : ChoiceTree)
-    → IsTextTree rows (task_for a owner head) (matching_sides atom 1 hs) tree → TextKeeps (claim_at rows) head atom hs tree
-text_keeps rows a owner head atom hs (ContentLeaf g) k = k
-text_keeps rows a owner head atom hs (RestLeaf g) k =
-    leaf_keeps rows g head.rest (gathered [] (matching_sides atom 1 hs)) (matching_rests atom hs) (λ s m. ⊎_elim (λ n. absurd n) (λ r. r) (gathered-from atom 1 hs [] s m)) k
-text_keeps rows a owner head atom hs (SplitOn j x y) k = k
+module _ (rows : List GoalRow) (a : Automaton) (owner : GoalCase) (head : Head State) (atom : Atom) (hs : List (Head State)) where
+  gathered-on : AreOn (λ h. h.rest) hs (gathered [] (matching_sides atom 1 hs)) (matching atom 1 hs)
+  gathered-on s m = ⊎_elim (λ n. absurd n) (λ f. from_side f) (gathered-from (matching_sides atom 1 hs) [] s m)
+    where
+      from_side : (i : ℕ) × (t : Side) × (slice_get (matching_sides atom 1 hs) i ≡ Some t) × (t.rest ≡ s) → HasPart (λ (h : Head State). h.rest) hs (matching atom 1 hs) s
+      from_side f =
+          let w = side_at_place atom 1 hs f.0 f.1 f.2 in
+          (suc w.place, w.head, matching_at atom hs (suc w.place) w.head w.there w.matched, w.there, w.rest_is ∙ f.3)
+
+  text_keeps : (tree : ChoiceTree) → IsTextTree rows (task_for a owner head) (matching_sides atom 1 hs) tree → TextTree (claim_at rows) atom head hs tree
+  text_keeps (settles_content g) k = k
+  text_keeps (settles_rest g) k = leaf_keeps (λ h. h.rest) rows g head hs (gathered [] (matching_sides atom 1 hs)) (matching atom 1 hs) gathered-on k
+  text_keeps (split_on j x y) k = k
+
+  label_keeps : (tree : ChoiceTree) → IsGrown rows (task_for a owner head) (matching_sides atom 1 hs) tree [] [] → LabelTree (claim_at rows) atom head hs no_sides tree
+  label_keeps tree k = grown_keeps rows a owner head atom hs tree [] [] no_sides (λ s m. absurd m) (λ s m. absurd m) (λ j m. absurd m) (λ j m. absurd m) k
 
 -- the tree of a case keeps the rules
 pub case_keeps : (rows : List GoalRow) (a : Automaton) (owner : GoalCase) (c : Claim State) (head : Head State) (atom : Atom) (tree : ChoiceTree)
-    → IsCaseTree a rows owner c head atom tree → CaseKeeps (claim_at rows) head atom (right_heads (heads_of a) c) tree
-case_keeps rows a owner c head atom tree k = go (is_text_atom atom) k
-  where
-    go : (b : Bool) → IsTreeBySort b rows (task_for a owner head) (claim_sides a c atom) tree → KeepsBySort b (claim_at rows) head atom (right_heads (heads_of a) c) tree
-    go true h = text_keeps rows a owner head atom (right_heads (heads_of a) c) tree h
-    go false h = grown_keeps rows a owner head atom (right_heads (heads_of a) c) tree [] [] [] [] [] (λ s m. m) (λ s m. m) (λ j m. absurd m) h
+    → IsCaseTree a rows owner c head atom tree → TreeRule (claim_at rows) atom head (right_heads (heads_of a) c) tree
+case_keeps rows a owner c head (Label l) tree k = label_keeps rows a owner head (Label l) (right_heads (heads_of a) c) tree k
+case_keeps rows a owner c head OtherLabel tree k = label_keeps rows a owner head OtherLabel (right_heads (heads_of a) c) tree k
+case_keeps rows a owner c head (Text t) tree k = text_keeps rows a owner head (Text t) (right_heads (heads_of a) c) tree k
+case_keeps rows a owner c head OtherText tree k = text_keeps rows a owner head OtherText (right_heads (heads_of a) c) tree k

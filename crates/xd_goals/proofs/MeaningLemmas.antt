@@ -9,10 +9,10 @@ use Rattle.xd_auto.specs.declared.auto.LabelMove.{LabelMove}
 use Rattle.xd_auto.specs.declared.auto.TextMove.{TextMove}
 use Rattle.xd_auto.specs.Automaton.{Automaton, accepts, moves_at}
 use Rattle.xd_rules.specs.Members.{IsOneOf}
-use Rattle.xd_rules.specs.Heads.{Head, takes_label, takes_text}
-use Rattle.xd_rules.specs.Meaning.{IsMeaning}
+use Rattle.xd_rules.specs.Heads.{Head}
+use Rattle.xd_rules.specs.Meaning.{takes_label, takes_text, IsMeaning}
 use Rattle.xd_rules.proofs.Members.{one_of-append_left, one_of-append_right, one_of-append_cases, one_of-map, one_of-from_map, one_of-any, any-one_of}
-use Rattle.xd_rules.specs.Moves.{Accepts, heads_of, is_last_in, label_head, text_head}
+use Rattle.xd_state_heads.specs.Moves.{Accepts, heads_of, is_last_in, label_head, text_head}
 
 accepts-text_from : (a : Automaton) (s : State) (t : List ℕ) (d : Document) → Accepts a s (text t d) → (h : Head State) × IsOneOf h (heads_of a s) × (takes_text h.kind t ≡ true) × Accepts a h.rest d
 accepts-text_from a s t d p =

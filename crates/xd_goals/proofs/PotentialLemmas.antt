@@ -9,7 +9,7 @@ use Rattle.xd_auto.specs.declared.auto.State.{State}
 use Rattle.xd_rules.specs.Members.{IsOneOf}
 use Rattle.xd_rules.specs.Rules.{Claim}
 use Rattle.xd_rules.proofs.Members.{one_of-append_left, one_of-append_right, one_of-map, one_of-to_flat_map, get-one_of}
-use Rattle.xd_rules.specs.Moves.{AreBelow, IsInOrder, RiseFrom, claim_with}
+use Rattle.xd_state_heads.specs.Moves.{AreBelow, IsInOrder, RiseFrom, claim_with}
 use Rattle.xd_goals.specs.Rows.{GoalRow, TableView, no_row, row_at, claim_of, RowsBelow}
 use Rattle.xd_goals.specs.Kept.{Grows, GrowsBy, IsSameButMarks, IsWokenRow, Refutes}
 use Rattle.xd_goals.specs.Standing.{KeepsGoals}

@@ -7,16 +7,17 @@ use Rattle.xd_doc.specs.declared.store.Seq.{Seq}
 use Rattle.xd_auto.specs.declared.auto.State.{State}
 use Rattle.xd_auto.specs.Automaton.{Automaton, StateMoves, Extends, KeepsAccepting}
 use Rattle.xd_rules.specs.declared.atom.Atom.{Atom}
-use Rattle.xd_rules.specs.Heads.{Head, AreNames, is_text_atom}
-use Rattle.xd_rules.specs.Rules.{Claim, ChoiceTree, ContentLeaf, RestLeaf, SplitOn, head_number, right_heads, wanted_cases}
+use Rattle.xd_rules.specs.Heads.{Head}
+use Rattle.xd_rules.specs.Meaning.{is_text_atom, right_heads}
+use Rattle.xd_rules.specs.Rules.{Claim, ChoiceTree, settles_content, settles_rest, split_on, numbered, wanted}
 use Rattle.xd_rules.proofs.Members.{one_of-all}
-use Rattle.xd_rules.specs.Moves.{AreBelow, heads_of, is_last_in, label_head, text_head}
+use Rattle.xd_state_heads.specs.Moves.{AreBelow, heads_of, is_last_in, label_head, text_head}
 use Rattle.xd_goals.specs.Rows.{GoalRow, RowsBelow, TableView, row_at, claim_of, goal_case}
 use Rattle.xd_goals.specs.Trees.{IsGrown, IsTextTree, IsTreeBySort}
-use Rattle.xd_rules.specs.Wants.{matching_sides}
+use Rattle.xd_state_heads.specs.Wants.{matching_sides}
 use Rattle.xd_goals.specs.Standing.{AreSeparated, HasChoices, IsBegun, IsCaseTree, IsChoiceOf, IsSeparatedBy, StandsOn, claim_sides, task_for}
 use Rattle.xd_goals.specs.Facts.{ChoiceStands, FactsOn}
-use Rattle.xd_rules.specs.declared.heads.Side.{Side}
+use Rattle.xd_state_heads.specs.declared.heads.Side.{Side}
 use Rattle.xd_goals.specs.declared.grow.Task.{Task}
 use Rattle.xd_goals.specs.declared.table.Choice.{Choice}
 use Rattle.xd_goals.specs.declared.table.GoalCase.{GoalCase}
@@ -30,15 +31,15 @@ below_more n m le (s ∷ ss) h = (let lt : s.number < n = h.0 in omega (arith, l
 -- of a tree's task only the states count that the left head leads to
 IsGrown-task : (rows : List GoalRow) (one two : Task) (sides : List Side) → one.content ≡ two.content → one.rest ≡ two.rest → (tree : ChoiceTree) (contents rests : List State)
     → IsGrown rows one sides tree contents rests → IsGrown rows two sides tree contents rests
-IsGrown-task rows one two sides e f (ContentLeaf g) contents rests h = rw (← e) h
-IsGrown-task rows one two sides e f (RestLeaf g) contents rests h = rw (← f) h
-IsGrown-task rows one two sides e f (SplitOn j a b) contents rests h =
+IsGrown-task rows one two sides e f (settles_content g) contents rests h = rw (← e) h
+IsGrown-task rows one two sides e f (settles_rest g) contents rests h = rw (← f) h
+IsGrown-task rows one two sides e f (split_on j a b) contents rests h =
     (h.0, h.1, h.2, IsGrown-task rows one two sides e f a _ rests h.3, IsGrown-task rows one two sides e f b contents _ h.4)
 
 IsTextTree-task : (rows : List GoalRow) (one two : Task) (sides : List Side) → one.rest ≡ two.rest → (tree : ChoiceTree) → IsTextTree rows one sides tree → IsTextTree rows two sides tree
-IsTextTree-task rows one two sides f (ContentLeaf g) h = h
-IsTextTree-task rows one two sides f (RestLeaf g) h = rw (← f) h
-IsTextTree-task rows one two sides f (SplitOn j a b) h = h
+IsTextTree-task rows one two sides f (settles_content g) h = h
+IsTextTree-task rows one two sides f (settles_rest g) h = rw (← f) h
+IsTextTree-task rows one two sides f (split_on j a b) h = h
 
 -- a goal past the end has no choices
 not_begun : (i : ℕ) (rows : List GoalRow) → length rows ≤ i → HasChoices (row_at rows i) → ⊥
@@ -95,7 +96,7 @@ module _ (a b : Automaton) (more : Extends a b) (keep : KeepsAccepting a b) wher
     choice-extends : (t : TableView) (owner : GoalCase) (k : Choice) → ChoiceStands a t owner c k → ChoiceStands b t owner c k
     choice-extends t owner k h = record {
       head = h.head;
-      found = ap (λ (hs : List (Head State)). head_number hs k.head) left_heads-same ∙ h.found;
+      found = ap (λ (hs : List (Head State)). numbered hs k.head) left_heads-same ∙ h.found;
       matched = h.matched;
       has = record {
         tree = h.has.tree;
@@ -108,7 +109,7 @@ module _ (a b : Automaton) (more : Extends a b) (keep : KeepsAccepting a b) wher
     choice_of-extends : (t : TableView) (owner : GoalCase) (k : Choice) → IsChoiceOf a t owner c k → IsChoiceOf b t owner c k
     choice_of-extends t owner k h = record {
       head = h.head;
-      found = ap (λ (hs : List (Head State)). head_number hs k.head) left_heads-same ∙ h.found;
+      found = ap (λ (hs : List (Head State)). numbered hs k.head) left_heads-same ∙ h.found;
       matched = h.matched;
       tree = h.tree;
       stands = h.stands;
@@ -118,10 +119,8 @@ module _ (a b : Automaton) (more : Extends a b) (keep : KeepsAccepting a b) wher
     begun-extends : (choices : List Choice) → IsBegun a c choices → IsBegun b c choices
     begun-extends choices h = record {
       last = λ e. any_last-same c.rights rights ∙ h.last (sym (last-same c.left left) ∙ e);
-      named = h.named;
-      names = subst (λ (hs : List (Head State)). AreNames (hs ++ right_heads (heads_of b) c) h.named) (sym left_heads-same)
-          (subst (λ (hs : List (Head State)). AreNames (heads_of a c.left ++ hs) h.named) (sym right_heads-same) h.names);
-      complete = h.complete ∙ ap (wanted_cases h.named 1) (sym left_heads-same);
+      complete = h.complete ∙ ap (λ (hs : List (Head State)). wanted hs (right_heads (heads_of a) c)) (sym left_heads-same)
+          ∙ ap (λ (hs : List (Head State)). wanted (heads_of b c.left) hs) (sym right_heads-same);
     }
 
   states-extend : length a ≤ length b → (rows : List GoalRow) → RowsBelow (length a) rows → RowsBelow (length b) rows

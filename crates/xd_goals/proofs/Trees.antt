@@ -6,8 +6,9 @@ use Rattle.std.proofs.lemmas.Option.{slice_get_within}
 use Rattle.xd_doc.specs.declared.store.Seq.{Seq}
 use Rattle.xd_auto.specs.declared.auto.State.{State}
 use Rattle.xd_rules.specs.Members.{IsOneOf}
-use Rattle.xd_rules.specs.Rules.{ChoiceTree, ContentLeaf, RestLeaf, SplitOn, AllLeaves}
-use Rattle.xd_rules.specs.Moves.{AreBelow, IsInOrder, RiseFrom, claim_with, with_state}
+use Rattle.xd_rules.specs.Rules.{ChoiceTree, settles_content, settles_rest, split_on}
+use Rattle.xd_rules.specs.Meaning.{AllLeaves}
+use Rattle.xd_state_heads.specs.Moves.{AreBelow, IsInOrder, RiseFrom, claim_with, with_state}
 use Rattle.xd_goals.specs.Rows.{GoalRow, TableView, row_at, claim_at, IsListed, IsRefuted}
 use Rattle.xd_goals.specs.Kept.{Grows, GrowsBy}
 use Rattle.xd_goals.specs.Trees.{StandsAt, IsGrown, IsTextTree, HasTree, HasOpenTree, IsFree, IsLeafFor, IsPathBelow, IsSplitAt, gathered}
@@ -19,22 +20,22 @@ use Rattle.xd_goals.specs.declared.table.Standing.{Standing}
 use Rattle.xd_goals.specs.declared.table.Standing.TheVariants.{Holds, Refuted, Waiting}
 use Rattle.xd_goals.specs.declared.table.GoalCase.{GoalCase}
 use Rattle.xd_goals.specs.declared.table.GoalId.{GoalId}
-use Rattle.xd_rules.specs.declared.heads.Side.{Side}
+use Rattle.xd_state_heads.specs.declared.heads.Side.{Side}
 use Rattle.xd_goals.specs.declared.grow.Task.{Task}
 use Rattle.std.proofs.lemmas.Bool.Decides.{Decides-eqb, Decides-ltb}
 use Rattle.xd_rules.proofs.Lists.{all_at}
 use Rattle.xd_goals.proofs.GrowsByLemmas.{claim_at-grows, past_is_new}
 
 pub AllLeaves-map : (P Q : ℕ → Type 0) → ((g : ℕ) → P g → Q g) → (tree : ChoiceTree) → AllLeaves P tree → AllLeaves Q tree
-AllLeaves-map P Q f (ContentLeaf g) h = f g h
-AllLeaves-map P Q f (RestLeaf g) h = f g h
-AllLeaves-map P Q f (SplitOn j a b) h = (AllLeaves-map P Q f a h.0, AllLeaves-map P Q f b h.1)
+AllLeaves-map P Q f (settles_content g) h = f g h
+AllLeaves-map P Q f (settles_rest g) h = f g h
+AllLeaves-map P Q f (split_on j a b) h = (AllLeaves-map P Q f a h.0, AllLeaves-map P Q f b h.1)
 
 pub StandsAt-more : (nodes nodes2 : List ChoiceNode) → ((n : ℕ) (x : ChoiceNode) → slice_get nodes n ≡ Some x → slice_get nodes2 n ≡ Some x)
     → (tree : ChoiceTree) (n : ℕ) → StandsAt nodes n tree → StandsAt nodes2 n tree
-StandsAt-more nodes nodes2 f (ContentLeaf g) n h = f n (Content (record { number = g })) h
-StandsAt-more nodes nodes2 f (RestLeaf g) n h = f n (Rest (record { number = g })) h
-StandsAt-more nodes nodes2 f (SplitOn j a b) n h =
+StandsAt-more nodes nodes2 f (settles_content g) n h = f n (Content (record { number = g })) h
+StandsAt-more nodes nodes2 f (settles_rest g) n h = f n (Rest (record { number = g })) h
+StandsAt-more nodes nodes2 f (split_on j a b) n h =
     (h.0, h.1, f n (Split j h.0 h.1) h.2, h.3, h.4, StandsAt-more nodes nodes2 f a h.0 h.5, StandsAt-more nodes nodes2 f b h.1 h.6)
 
 content_one : (o : Option ChoiceNode) (g k : ℕ) → o ≡ Some (Content (record { number = g })) → o ≡ Some (Content (record { number = k })) → g ≡ k
@@ -54,22 +55,22 @@ rest_one o g k e f = ap number_in (sym e ∙ f)
 
 -- one tree stands at a node at most
 pub StandsAt-one : (nodes : List ChoiceNode) (s t : ChoiceTree) (n : ℕ) → StandsAt nodes n s → StandsAt nodes n t → s ≡ t
-StandsAt-one nodes (ContentLeaf g) (ContentLeaf k) n h i = ap ContentLeaf (content_one (slice_get nodes n) g k h i)
-StandsAt-one nodes (ContentLeaf g) (RestLeaf k) n h i = absurd (cc)
-StandsAt-one nodes (ContentLeaf g) (SplitOn k a b) n h i = let e = i.2 in absurd (cc)
-StandsAt-one nodes (RestLeaf g) (ContentLeaf k) n h i = absurd (cc)
-StandsAt-one nodes (RestLeaf g) (RestLeaf k) n h i = ap RestLeaf (rest_one (slice_get nodes n) g k h i)
-StandsAt-one nodes (RestLeaf g) (SplitOn k a b) n h i = let e = i.2 in absurd (cc)
-StandsAt-one nodes (SplitOn j c d) (ContentLeaf k) n h i = let e = h.2 in absurd (cc)
-StandsAt-one nodes (SplitOn j c d) (RestLeaf k) n h i = let e = h.2 in absurd (cc)
-StandsAt-one nodes (SplitOn j c d) (SplitOn k a b) n h i =
+StandsAt-one nodes (settles_content g) (settles_content k) n h i = ap settles_content (content_one (slice_get nodes n) g k h i)
+StandsAt-one nodes (settles_content g) (settles_rest k) n h i = absurd (cc)
+StandsAt-one nodes (settles_content g) (split_on k a b) n h i = let e = i.2 in absurd (cc)
+StandsAt-one nodes (settles_rest g) (settles_content k) n h i = absurd (cc)
+StandsAt-one nodes (settles_rest g) (settles_rest k) n h i = ap settles_rest (rest_one (slice_get nodes n) g k h i)
+StandsAt-one nodes (settles_rest g) (split_on k a b) n h i = let e = i.2 in absurd (cc)
+StandsAt-one nodes (split_on j c d) (settles_content k) n h i = let e = h.2 in absurd (cc)
+StandsAt-one nodes (split_on j c d) (settles_rest k) n h i = let e = h.2 in absurd (cc)
+StandsAt-one nodes (split_on j c d) (split_on k a b) n h i =
     let p = h.2 in let q = i.2 in
     let jk : j ≡ k = cc in
     let xs : h.0 ≡ i.0 = cc in
     let ys : h.1 ≡ i.1 = cc in
     let ca = StandsAt-one nodes c a i.0 (subst (λ (m : ℕ). StandsAt nodes m c) xs h.5) i.5 in
     let db = StandsAt-one nodes d b i.1 (subst (λ (m : ℕ). StandsAt nodes m d) ys h.6) i.6 in
-    ap (λ (x : ℕ). SplitOn x c d) jk ∙ ap (λ (x : ChoiceTree). SplitOn k x d) ca ∙ ap (λ (x : ChoiceTree). SplitOn k a x) db
+    ap (λ (x : ℕ). split_on x c d) jk ∙ ap (λ (x : ChoiceTree). split_on k x d) ca ∙ ap (λ (x : ChoiceTree). split_on k a x) db
 
 pub standing-grows : {A : List State → Type 0} (s t : TableView) → GrowsBy A s t → (g : ℕ) → ((row_at t.rows g).standing ≡ (row_at s.rows g).standing)
 standing-grows s t h g = ⊎_elim
@@ -108,9 +109,9 @@ open-grows s t h g n r = n (r.0, sym (standing-grows s t h g) ∙ r.1)
 
 pub IsGrown-grows : {A : List State → Type 0} (s t : TableView) → GrowsBy A s t → (task : Task) (sides : List Side) (tree : ChoiceTree) (contents rests : List State)
     → IsGrown s.rows task sides tree contents rests → IsGrown t.rows task sides tree contents rests
-IsGrown-grows s t h task sides (ContentLeaf g) contents rests k = claim_at-grows s t h g (claim_with task.content contents) k
-IsGrown-grows s t h task sides (RestLeaf g) contents rests k = claim_at-grows s t h g (claim_with task.rest rests) k
-IsGrown-grows s t h task sides (SplitOn j a b) contents rests k = (
+IsGrown-grows s t h task sides (settles_content g) contents rests k = claim_at-grows s t h g (claim_with task.content contents) k
+IsGrown-grows s t h task sides (settles_rest g) contents rests k = claim_at-grows s t h g (claim_with task.rest rests) k
+IsGrown-grows s t h task sides (split_on j a b) contents rests k = (
   k.0,
   k.1,
   k.2,
@@ -119,9 +120,9 @@ IsGrown-grows s t h task sides (SplitOn j a b) contents rests k = (
 )
 
 pub IsTextTree-grows : {A : List State → Type 0} (s t : TableView) → GrowsBy A s t → (task : Task) (sides : List Side) (tree : ChoiceTree) → IsTextTree s.rows task sides tree → IsTextTree t.rows task sides tree
-IsTextTree-grows s t h task sides (ContentLeaf g) k = k
-IsTextTree-grows s t h task sides (RestLeaf g) k = claim_at-grows s t h g (claim_with task.rest (gathered [] sides)) k
-IsTextTree-grows s t h task sides (SplitOn j a b) k = k
+IsTextTree-grows s t h task sides (settles_content g) k = k
+IsTextTree-grows s t h task sides (settles_rest g) k = claim_at-grows s t h g (claim_with task.rest (gathered [] sides)) k
+IsTextTree-grows s t h task sides (split_on j a b) k = k
 
 abbrev pub HasTree-grows : {A : List State → Type 0} (s t : TableView) → GrowsBy A s t → (Kind Kind2 : ChoiceTree → Type 0) → ((tree : ChoiceTree) → Kind tree → Kind2 tree) → (owner : GoalCase) (root : ℕ) → HasTree s Kind owner root → HasTree t Kind2 owner root
 HasTree-grows s t h Kind Kind2 f owner root k = record {
@@ -149,14 +150,14 @@ module _ (task : Task) (sides : List Side) (contents rests : List State) where
   pub content_leaf : (t u : TableView) (g : GoalId) (n : ℕ) → IsLeafFor t task.owner (claim_with task.content contents) g.number → ¬ (IsRefuted t.rows g.number)
       → Grows t u → slice_get u.nodes n ≡ Some (Content g) → HasOpenTree u (Kind u) task.owner n
   content_leaf t u g n l o h e = record {
-    has = record { tree = ContentLeaf g.number; stands = e; kind = claim_at-grows t u h g.number (claim_with task.content contents) l.claim; listed = h.listed g.number task.owner l.listed };
+    has = record { tree = settles_content g.number; stands = e; kind = claim_at-grows t u h g.number (claim_with task.content contents) l.claim; listed = h.listed g.number task.owner l.listed };
     open_ = open-grows t u h g.number o;
   }
 
   pub rest_leaf : (t u : TableView) (g : GoalId) (n : ℕ) → IsLeafFor t task.owner (claim_with task.rest rests) g.number → ¬ (IsRefuted t.rows g.number)
       → Grows t u → slice_get u.nodes n ≡ Some (Rest g) → HasOpenTree u (Kind u) task.owner n
   rest_leaf t u g n l o h e = record {
-    has = record { tree = RestLeaf g.number; stands = e; kind = claim_at-grows t u h g.number (claim_with task.rest rests) l.claim; listed = h.listed g.number task.owner l.listed };
+    has = record { tree = settles_rest g.number; stands = e; kind = claim_at-grows t u h g.number (claim_with task.rest rests) l.claim; listed = h.listed g.number task.owner l.listed };
     open_ = open-grows t u h g.number o;
   }
 
@@ -174,7 +175,7 @@ module _ (task : Task) (sides : List Side) (contents rests : List State) where
       (λ tree g. IsGrown-grows u w k task sides tree contents rs g) task.owner y b in
       record {
         has = record {
-          tree = SplitOn side.number a2.has.tree b2.has.tree;
+          tree = split_on side.number a2.has.tree b2.has.tree;
           stands = (x, y, split.found, split.content_older, split.rest_older, a2.has.stands, b2.has.stands);
           kind = (
             side,
@@ -287,9 +288,9 @@ read_open rows g s e n r = n r.0 (e ∙ r.1)
 
 -- the node of a tree is there
 pub StandsAt-within : (nodes : List ChoiceNode) (tree : ChoiceTree) (n : ℕ) → StandsAt nodes n tree → n < length nodes
-StandsAt-within nodes (ContentLeaf g) n h = slice_get_within nodes n (Content (record { number = g })) h
-StandsAt-within nodes (RestLeaf g) n h = slice_get_within nodes n (Rest (record { number = g })) h
-StandsAt-within nodes (SplitOn j a b) n h = slice_get_within nodes n (Split j h.0 h.1) h.2
+StandsAt-within nodes (settles_content g) n h = slice_get_within nodes n (Content (record { number = g })) h
+StandsAt-within nodes (settles_rest g) n h = slice_get_within nodes n (Rest (record { number = g })) h
+StandsAt-within nodes (split_on j a b) n h = slice_get_within nodes n (Split j h.0 h.1) h.2
 
 pub HasOpenTree-within : (t : TableView) (Kind : ChoiceTree → Type 0) (owner : GoalCase) (root : ℕ) → HasOpenTree t Kind owner root → root < length t.nodes
 HasOpenTree-within t Kind owner root h = StandsAt-within t.nodes h.has.tree root h.has.stands
@@ -311,7 +312,7 @@ pub text_leaf : (task : Task) (sides : List Side) (t u : TableView) (g : GoalId)
     → Grows t u → slice_get u.nodes n ≡ Some (Rest g) → HasOpenTree u (IsTextTree u.rows task sides) task.owner n
 text_leaf task sides t u g n rests same l o h e = record {
   has = record {
-    tree = RestLeaf g.number;
+    tree = settles_rest g.number;
     stands = e;
     kind = subst (λ (rs : List State). claim_at u.rows g.number ≡ Some (claim_with task.rest rs)) same (claim_at-grows t u h g.number (claim_with task.rest rests) l.claim);
     listed = h.listed g.number task.owner l.listed;

@@ -1,7 +1,6 @@
 -- What a table says is true.
-use Rattle.std.proofs.Common.{ℕ, ◌<◌, ◌≡◌, Bool, true, false, not, cond, ◌||◌, List, [], ◌∷◌, ◌++◌, length, map, Some, Result, Ok, Err, IfOk, inl, inr, ⊎_elim, sym, refl, ap, subst, ◌∙◌}
+use Rattle.std.proofs.Common.{ℕ, ◌≡◌, Bool, true, false, not, cond, ◌||◌, List, [], ◌∷◌, ◌++◌, map, Some, Result, Ok, Err, IfOk, inl, inr, sym, refl, ap, subst, ◌∙◌}
 use Rattle.std.specs.List.{AllByRecursion, list_any}
-use Rattle.std.proofs.lemmas.Bool.{cases_lt}
 use Rattle.xd_doc.specs.Document.{Document, empty, text, element}
 use Rattle.xd_doc.specs.Classes.{NameClass, class_has, is_named}
 use Rattle.xd_doc.specs.Stored.{document_at}
@@ -13,28 +12,28 @@ use Rattle.xd_auto.specs.declared.auto.State.{State}
 use Rattle.xd_auto.specs.Automaton.{Automaton}
 use Rattle.xd_rules.specs.declared.atom.Atom.{Atom}
 use Rattle.xd_rules.specs.declared.atom.Atom.TheVariants.{Label, OtherLabel, Text, OtherText}
-use Rattle.xd_rules.specs.Members.{IsOneOf, NoneOf}
-use Rattle.xd_rules.specs.Heads.{Head, AreNames, matches, is_text_atom, takes_label, takes_text}
-use Rattle.xd_rules.specs.Rules.{Claim, Case, CaseKey, key_of, keyed, AllLeaves, IsCase, right_heads}
-use Rattle.xd_rules.specs.Meaning.{Separates}
+use Rattle.xd_rules.specs.Members.{IsOneOf}
+use Rattle.xd_rules.specs.Listed.{NoneOf, AreNames}
+use Rattle.xd_rules.specs.Heads.{Head, matches}
+use Rattle.xd_rules.specs.Meaning.{is_text_atom, takes_label, takes_text, keyed, AllLeaves, right_heads, Separates}
+use Rattle.xd_rules.specs.Rules.{Claim, Case, HeadAtom, head_atom, CaseRule}
 use Rattle.xd_rules.proofs.Atoms.{matches-label, matches-text, matches-other_label, matches-other_text}
 use Rattle.xd_rules.proofs.Soundness.{IsSettled as HasRow, holds}
 use Rattle.xd_rules.proofs.Members.{one_of-append_left, one_of-append_right, one_of-to_flat_map}
 use Rattle.xd_rules.proofs.Separation.{separates-text, separates-empty}
-use Rattle.xd_rules.specs.Moves.{Accepts, claim_with, heads_of, is_last_in}
+use Rattle.xd_state_heads.specs.Moves.{Accepts, claim_with, heads_of, is_last_in}
 use Rattle.xd_goals.specs.Rows.{TableView, row_at, claim_of, claim_at, choice_key}
 use Rattle.xd_goals.specs.Trees.{IsFailure, IsFailureBySort, IsTextFailure, IsRefutedBy, gathered, takes}
-use Rattle.xd_rules.specs.declared.heads.Side.{Side}
+use Rattle.xd_state_heads.specs.declared.heads.Side.{Side}
 use Rattle.xd_goals.specs.Standing.{IsSeparatedBy, claim_sides, task_for}
 use Rattle.xd_goals.specs.Facts.{FactsOn, FactsOnAutomaton}
 use Rattle.xd_goals.specs.Reached.{is_marked, LeadsToMarked, IsSettled}
 use Rattle.xd_goals.specs.Truth.{IsIncluded, KeepsRules}
 use Rattle.xd_goals.specs.Cases.{BeginsAs, FailsAt}
-use Rattle.xd_rules.specs.Wants.{names_in}
+use Rattle.xd_state_heads.specs.Wants.{names_in}
 use Rattle.xd_goals.specs.declared.table.Choice.{Choice}
 use Rattle.xd_goals.specs.declared.table.GoalCase.{GoalCase}
-use Rattle.xd_goals.specs.declared.table.Standing.TheVariants.{Holds}
-use Rattle.xd_goals.proofs.GrowsByLemmas.{claim_at-is, claim_within, past_is_new}
+use Rattle.xd_goals.proofs.GrowsByLemmas.{claim_within}
 use Rattle.xd_rules.proofs.Lists.{all_at}
 use Rattle.xd_goals.proofs.Facts.{StandsSomewhere, choices_stand}
 use Rattle.xd_goals.proofs.KeepsRulesLemmas.{case_keeps, side_of_head, gathered-has}
@@ -43,53 +42,48 @@ use Rattle.xd_goals.proofs.MeaningLemmas.{automaton_meaning}
 module _ (a : Automaton) (t : TableView) (stands : FactsOnAutomaton a t) where
   cases_of : (c : Claim State) (ks : List Choice) → AllByRecursion (StandsSomewhere a t c) ks → List Case
   cases_of c [] h = []
-  cases_of c (k ∷ ks) h = record { head = k.head; atom = k.atom; tree = h.0.1.has.tree } ∷ cases_of c ks h.1
+  cases_of c (k ∷ ks) h = record { head = k.head; atom = k.atom; choice = h.0.1.has.tree } ∷ cases_of c ks h.1
 
-  keys_are : (c : Claim State) (ks : List Choice) (h : AllByRecursion (StandsSomewhere a t c) ks) → map key_of (cases_of c ks h) ≡ map choice_key ks
+  keys_are : (c : Claim State) (ks : List Choice) (h : AllByRecursion (StandsSomewhere a t c) ks) → map head_atom (cases_of c ks h) ≡ map choice_key ks
   unfolding cases_of
   keys_are c [] h = refl
-  keys_are c (k ∷ ks) h = ap (λ (rest : List CaseKey). keyed k.head k.atom ∷ rest) (keys_are c ks h.1)
+  keys_are c (k ∷ ks) h = ap (λ (rest : List HeadAtom). keyed k.head k.atom ∷ rest) (keys_are c ks h.1)
 
-  each_is : (c : Claim State) (ks : List Choice) (h : AllByRecursion (StandsSomewhere a t c) ks) → AllByRecursion (IsCase (heads_of a) (claim_at t.rows) c) (cases_of c ks h)
+  each_is : (c : Claim State) (ks : List Choice) (h : AllByRecursion (StandsSomewhere a t c) ks) → AllByRecursion (CaseRule (claim_at t.rows) (heads_of a c.left) (right_heads (heads_of a) c)) (cases_of c ks h)
   unfolding cases_of
   each_is c [] h = tt
   each_is c (k ∷ ks) h =
       let x = h.0.1 in
-      (record { head = x.head; found = x.found; keeps = case_keeps t.rows a h.0.0 c x.head k.atom x.has.tree x.has.kind }, each_is c ks h.1)
+      (record { left_head = x.head; stands = x.found; tree = case_keeps t.rows a h.0.0 c x.head k.atom x.has.tree x.has.kind }, each_is c ks h.1)
 
   leaves_are : (marks : List Bool) (c : Claim State) (ks : List Choice) (h : AllByRecursion (StandsSomewhere a t c) ks) → AllByRecursion (LeadsToMarked t.nodes marks) ks
-      → AllByRecursion (λ (k : Case). AllLeaves (λ g. is_marked marks g ≡ true) k.tree) (cases_of c ks h)
+      → AllByRecursion (λ (k : Case). AllLeaves (λ g. is_marked marks g ≡ true) k.choice) (cases_of c ks h)
   unfolding cases_of
   leaves_are marks c [] h m = tt
   leaves_are marks c (k ∷ ks) h m = (m.0 h.0.1.has.tree h.0.1.has.stands, leaves_are marks c ks h.1 m.1)
 
-  there : (g : ℕ) → (row_at t.rows g).standing ≡ Holds → g < length t.rows
-  there g e = ⊎_elim (λ lt. lt) (λ ge. let w = (past_is_new t.rows g ge).standing in absurd (cc)) (cases_lt g (length t.rows))
-
-  row_is : (goal : ℕ) (s : IsSettled t goal) (g : ℕ) → is_marked s.marks g ≡ true → HasRow (heads_of a) (is_last_in a) (claim_at t.rows) (λ k. is_marked s.marks k ≡ true) g
-  row_is goal s g m =
-      let r = stands.holds g (s.holds g m) in
-      let c = claim_of (row_at t.rows g) in
-      let ks = (row_at t.rows g).choices in
-      let stand = choices_stand a t stands g in
-      record {
-        claim = c;
-        cases = cases_of c ks stand;
-        found = claim_at-is t.rows g (there g (s.holds g m));
-        rules = record {
-          last = r.begun.last;
-          named = r.begun.named;
-          names = r.begun.names;
-          complete = keys_are c ks stand ∙ r.begun.complete;
-          each = each_is c ks stand;
-        };
-        leaves = leaves_are s.marks c ks stand (s.leads g m);
-      }
+  row_is : (goal : ℕ) (s : IsSettled t goal) (g : ℕ) → is_marked s.marks g ≡ true → (c : Claim State) → claim_at t.rows g ≡ Some c → HasRow (heads_of a) (is_last_in a) (claim_at t.rows) (λ k. is_marked s.marks k ≡ true) c
+  row_is goal s g m c found = subst (HasRow (heads_of a) (is_last_in a) (claim_at t.rows) (λ k. is_marked s.marks k ≡ true)) (claim_within t.rows g c found).1 row
+    where
+      row : HasRow (heads_of a) (is_last_in a) (claim_at t.rows) (λ k. is_marked s.marks k ≡ true) (claim_of (row_at t.rows g))
+      row =
+          let r = stands.holds g (s.holds g m) in
+          let ks = (row_at t.rows g).choices in
+          let stand = choices_stand a t stands g in
+          record {
+            cases = cases_of (claim_of (row_at t.rows g)) ks stand;
+            rules = record {
+              last = r.begun.last;
+              complete = keys_are (claim_of (row_at t.rows g)) ks stand ∙ r.begun.complete;
+              each = each_is (claim_of (row_at t.rows g)) ks stand;
+            };
+            leaves = leaves_are s.marks (claim_of (row_at t.rows g)) ks stand (s.leads g m);
+          }
 
   -- a goal that holds, and leads to goals alone that hold, is true
   pub settled_is_included : (goal : ℕ) → IsSettled t goal → (left : State) (rights : List State) → claim_at t.rows goal ≡ Some (claim_with left rights) → IsIncluded a left rights
   settled_is_included goal s left rights e d =
-      holds (Accepts a) (heads_of a) (is_last_in a) (automaton_meaning a) (claim_at t.rows) (λ k. is_marked s.marks k ≡ true) (λ g m. row_is goal s g m) d goal s.start (claim_with left rights) e
+      holds (Accepts a) (heads_of a) (is_last_in a) (automaton_meaning a) (claim_at t.rows) (λ k. is_marked s.marks k ≡ true) (row_is goal s) d goal s.start (claim_with left rights) e
 
 -- the document of a refuted goal
 pub refuted_by : (a : Automaton) (ds : List Document) (t : TableView) → FactsOn a ds t → (c : Claim State) (seq : Seq) → IsRefutedBy t.rows c seq → IsSeparatedBy a ds c seq

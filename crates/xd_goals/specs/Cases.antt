@@ -1,5 +1,5 @@
 -- The cases of a goal as work on it sees them.
-use Rattle.std.specs.Prelude.{◌≡◌, ℕ, ◌≤◌, true, false, List, ◌++◌, length, map, Option, None, Some, slice_get}
+use Rattle.std.specs.Prelude.{◌≡◌, ℕ, ◌≤◌, true, false, List, length, map, Option, None, Some, slice_get}
 use Rattle.std.specs.List.{list_any}
 use Rattle.xd_doc.specs.Document.{Document, text, element}
 use Rattle.xd_doc.specs.Classes.{NameClass, class_has}
@@ -9,9 +9,10 @@ use Rattle.xd_auto.specs.Automaton.{Automaton}
 use Rattle.xd_rules.specs.declared.atom.Atom.{Atom}
 use Rattle.xd_rules.specs.declared.atom.Atom.TheVariants.{Label, OtherLabel, Text, OtherText}
 use Rattle.xd_rules.specs.Members.{IsOneOf}
-use Rattle.xd_rules.specs.Heads.{Head, Named, AreNames, matches, is_text_atom}
-use Rattle.xd_rules.specs.Rules.{CaseKey, Claim, right_heads, wanted_cases}
-use Rattle.xd_rules.specs.Moves.{heads_of, is_last_in}
+use Rattle.xd_rules.specs.Heads.{Head, matches}
+use Rattle.xd_rules.specs.Meaning.{is_text_atom, right_heads}
+use Rattle.xd_rules.specs.Rules.{HeadAtom, Claim, wanted}
+use Rattle.xd_state_heads.specs.Moves.{heads_of, is_last_in}
 use Rattle.xd_goals.specs.Rows.{TableView, choice_key, claim_of, goal_case, row_at, IsUnbroken}
 use Rattle.xd_goals.specs.Measure.{AreMadeFrom, potential}
 use Rattle.xd_goals.specs.Trees.{IsFailureBySort}
@@ -60,9 +61,7 @@ IsCaseGrown a ds t owner c head atom (Fails inside behind) = FailsAt a ds t c at
 
 -- there are open trees for all cases of a goal
 pub record AreSettled (a : Automaton) (t : TableView) (goal : ℕ) (c : Claim State) (choices : List Choice) : Type 0 where
-  pub named : Named
-  pub names : AreNames (heads_of a c.left ++ right_heads (heads_of a) c) named
-  pub complete : map choice_key choices ≡ wanted_cases named 1 (heads_of a c.left)
+  pub complete : map choice_key choices ≡ wanted (heads_of a c.left) (right_heads (heads_of a) c)
   pub open_choices : (place : ℕ) (k : Choice) → slice_get choices place ≡ Some k → IsOpenChoice a t (goal_case goal place) c k
 
 -- what a case comes to by what was grown for it
@@ -90,6 +89,6 @@ IsMended a ds t owner None = IsUnbroken (row_at t.rows owner.goal.number) owner.
 IsMended a ds t owner (Some f) = FailsAt a ds t (claim_of (row_at t.rows owner.goal.number)) f.atom f.inside f.behind
 
 -- open trees for the first cases
-pub record AreBegun (a : Automaton) (t : TableView) (goal : ℕ) (c : Claim State) (keys : List CaseKey) (choices : List Choice) : Type 0 where
+pub record AreBegun (a : Automaton) (t : TableView) (goal : ℕ) (c : Claim State) (keys : List HeadAtom) (choices : List Choice) : Type 0 where
   pub keys_are : map choice_key choices ≡ keys
   pub open_choices : (place : ℕ) (k : Choice) → slice_get choices place ≡ Some k → IsOpenChoice a t (goal_case goal place) c k

@@ -5,8 +5,9 @@ use Rattle.xd_doc.specs.Document.{Document}
 use Rattle.xd_auto.specs.declared.auto.State.{State}
 use Rattle.xd_auto.specs.Automaton.{Automaton}
 use Rattle.xd_rules.specs.Heads.{Head, matches}
-use Rattle.xd_rules.specs.Rules.{AllLeaves, ChoiceTree, Claim, head_number}
-use Rattle.xd_rules.specs.Moves.{heads_of}
+use Rattle.xd_rules.specs.Meaning.{AllLeaves}
+use Rattle.xd_rules.specs.Rules.{ChoiceTree, Claim, numbered}
+use Rattle.xd_state_heads.specs.Moves.{heads_of}
 use Rattle.xd_goals.specs.Rows.{GoalRow, TableView, row_at, claim_of, goal_case, IsUnbroken, RowsBelow}
 use Rattle.xd_goals.specs.Trees.{HasTree, StandsAt}
 use Rattle.xd_goals.specs.Kept.{IsWhole, view_of}
@@ -52,7 +53,7 @@ pub record IsKept (g : Goals) : Type 0 where
 -- a choice of a goal, whose tree's leaves name goals with the case among their dependents
 pub record ChoiceStands (a : Automaton) (t : TableView) (owner : GoalCase) (c : Claim State) (k : Choice) : Type 0 where
   pub head : Head State
-  pub found : head_number (heads_of a c.left) k.head ≡ Some head
+  pub found : numbered (heads_of a c.left) k.head ≡ Some head
   pub matched : matches head.kind k.atom ≡ true
   pub has : HasTree t (IsCaseTree a t.rows owner c head k.atom) owner k.root
 

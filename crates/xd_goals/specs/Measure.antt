@@ -3,7 +3,7 @@ use Rattle.std.specs.Prelude.{ℕ, zero, suc, ◌+◌, ◌<◌, ◌≤◌, List,
 use Rattle.std.specs.List.{flat_map}
 use Rattle.xd_auto.specs.declared.auto.State.{State}
 use Rattle.xd_rules.specs.Rules.{Claim}
-use Rattle.xd_rules.specs.Moves.{IsInOrder, claim_with}
+use Rattle.xd_state_heads.specs.Moves.{IsInOrder, claim_with}
 use Rattle.xd_goals.specs.Rows.{GoalRow, row_at}
 use Rattle.xd_goals.specs.declared.table.Standing.{Standing}
 use Rattle.xd_goals.specs.declared.table.Standing.TheVariants.{Holds, Refuted, Waiting}

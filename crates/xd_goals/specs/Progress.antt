@@ -7,7 +7,7 @@ use Rattle.xd_auto.specs.declared.auto.State.{State}
 use Rattle.xd_auto.specs.Automaton.{Automaton, IsState}
 use Rattle.xd_auto.specs.Kept.{Answers, AreRight}
 use Rattle.xd_rules.specs.Rules.{Claim}
-use Rattle.xd_rules.specs.declared.heads.Side.{Side}
+use Rattle.xd_state_heads.specs.declared.heads.Side.{Side}
 use Rattle.xd_goals.specs.Kept.{Grows, IsConsistent, IsWhole, view_of}
 use Rattle.xd_goals.specs.Trees.{GrownAs, HasOpenTree, IsFailure, IsGrown, IsPathBelow}
 use Rattle.xd_goals.specs.Standing.{AreSeparated, KeepsGoals}

@@ -1,7 +1,8 @@
 -- Goals that are reached from a goal through leaves.
 use Rattle.std.specs.Prelude.{◌≡◌, ℕ, ◌+◌, ◌<◌, ◌≤◌, ◌⊎◌, Bool, true, false, suc, List, [], ◌∷◌, map, length, slice_index_or}
 use Rattle.std.specs.List.{AllByRecursion}
-use Rattle.xd_rules.specs.Rules.{ChoiceTree, ContentLeaf, RestLeaf, SplitOn, AllLeaves}
+use Rattle.xd_rules.specs.Rules.{ChoiceTree, settles_content, settles_rest, split_on}
+use Rattle.xd_rules.specs.Meaning.{AllLeaves}
 use Rattle.xd_goals.specs.Rows.{GoalRow, TableView, IsRefuted, row_at}
 use Rattle.xd_rules.specs.Members.{IsOneOf}
 use Rattle.xd_goals.specs.Kept.{IsSameButMarks}
@@ -43,9 +44,9 @@ IsOpenAt nodes rows root = (tree : ChoiceTree) → StandsAt nodes root tree → 
 
 -- a leaf of the tree names the goal
 abbrev pub HasLeaf : ℕ → ChoiceTree → Type 0
-HasLeaf g (ContentLeaf k) = k ≡ g
-HasLeaf g (RestLeaf k) = k ≡ g
-HasLeaf g (SplitOn j a b) = HasLeaf g a ⊎ HasLeaf g b
+HasLeaf g (settles_content k) = k ≡ g
+HasLeaf g (settles_rest k) = k ≡ g
+HasLeaf g (split_on j a b) = HasLeaf g a ⊎ HasLeaf g b
 
 -- a leaf of the tree that stands at the node names the goal
 pub record IsLeafAt (nodes : List ChoiceNode) (root g : ℕ) : Type 0 where

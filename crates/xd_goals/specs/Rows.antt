@@ -3,8 +3,8 @@
 use Rattle.std.specs.Prelude.{◌≡◌, ℕ, ◌<◌, Bool, false, List, [], ◌∷◌, map, length, Option, Some, None, slice_get, slice_index_or, option_map}
 use Rattle.xd_doc.specs.declared.store.Seq.{Seq}
 use Rattle.xd_auto.specs.declared.auto.State.{State}
-use Rattle.xd_rules.specs.Rules.{Claim, CaseKey, keyed}
-use Rattle.xd_rules.specs.Moves.{AreBelow}
+use Rattle.xd_rules.specs.Rules.{Claim, HeadAtom}
+use Rattle.xd_state_heads.specs.Moves.{AreBelow}
 use Rattle.xd_goals.specs.declared.table.Choice.{Choice}
 use Rattle.xd_goals.specs.declared.table.ChoiceNode.{ChoiceNode}
 use Rattle.xd_goals.specs.declared.table.ChoiceNode.TheVariants.{Split, Content, Rest}
@@ -57,8 +57,8 @@ abbrev pub IsUnbroken : GoalRow → ℕ → Type 0
 IsUnbroken row place = slice_get row.broken place ≡ Some false
 
 -- the head and the atom of a choice tree
-abbrev pub choice_key : Choice → CaseKey
-choice_key k = keyed k.head k.atom
+abbrev pub choice_key : Choice → HeadAtom
+choice_key k = (k.head, k.atom)
 
 -- the goal's number, and those of its rights
 abbrev pub state_numbers : List State → List ℕ

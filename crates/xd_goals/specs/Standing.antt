@@ -1,5 +1,5 @@
 -- A table stands on an automaton and a store: what its goals say of them.
-use Rattle.std.specs.Prelude.{◌≡◌, ℕ, ◌<◌, ◌≤◌, ◌⊎◌, true, List, [], ◌++◌, map, length, Some, slice_get}
+use Rattle.std.specs.Prelude.{◌≡◌, ℕ, ◌<◌, ◌≤◌, ◌⊎◌, true, List, [], map, length, Some, slice_get}
 use Rattle.std.specs.List.{list_any}
 use Rattle.xd_doc.specs.Document.{Document}
 use Rattle.xd_doc.specs.Stored.{document_at}
@@ -8,18 +8,18 @@ use Rattle.xd_doc.specs.declared.store.Seq.{Seq}
 use Rattle.xd_auto.specs.declared.auto.State.{State}
 use Rattle.xd_auto.specs.Automaton.{Automaton}
 use Rattle.xd_rules.specs.declared.atom.Atom.{Atom}
-use Rattle.xd_rules.specs.Heads.{Head, Named, AreNames, matches, is_text_atom}
-use Rattle.xd_rules.specs.Rules.{Claim, ChoiceTree, AllLeaves, head_number, right_heads, wanted_cases}
-use Rattle.xd_rules.specs.Meaning.{Separates}
-use Rattle.xd_rules.specs.Moves.{heads_of, is_last_in, Accepts}
+use Rattle.xd_rules.specs.Heads.{Head, matches}
+use Rattle.xd_rules.specs.Meaning.{is_text_atom, AllLeaves, right_heads, Separates}
+use Rattle.xd_rules.specs.Rules.{Claim, ChoiceTree, numbered, wanted}
+use Rattle.xd_state_heads.specs.Moves.{heads_of, is_last_in, Accepts}
 use Rattle.xd_goals.specs.Rows.{GoalRow, TableView, row_at, claim_of, choice_key, goal_case, IsRefuted, RowsBelow}
 use Rattle.xd_goals.specs.Trees.{StandsAt, IsTreeBySort}
-use Rattle.xd_rules.specs.Wants.{matching_sides}
+use Rattle.xd_state_heads.specs.Wants.{matching_sides}
 use Rattle.xd_goals.specs.declared.table.Choice.{Choice}
 use Rattle.xd_goals.specs.declared.table.GoalCase.{GoalCase}
 use Rattle.xd_goals.specs.declared.table.Standing.TheVariants.{Holds, Refuted}
 use Rattle.xd_goals.specs.declared.grow.Task.{Task}
-use Rattle.xd_rules.specs.declared.heads.Side.{Side}
+use Rattle.xd_state_heads.specs.declared.heads.Side.{Side}
 
 -- the document of the store is one that the goal's left accepts and none of its rights does
 pub record IsSeparatedBy (a : Automaton) (ds : List Document) (c : Claim State) (seq : Seq) : Type 0 where
@@ -44,7 +44,7 @@ IsCaseTree a rows owner c h atom tree = IsTreeBySort (is_text_atom atom) rows (t
 -- a choice of a goal, for this case of it: a head of its left at an atom of it, with a tree
 pub record IsChoiceOf (a : Automaton) (t : TableView) (owner : GoalCase) (c : Claim State) (k : Choice) : Type 0 where
   pub head : Head State
-  pub found : head_number (heads_of a c.left) k.head ≡ Some head
+  pub found : numbered (heads_of a c.left) k.head ≡ Some head
   pub matched : matches head.kind k.atom ≡ true
   pub tree : ChoiceTree
   pub stands : StandsAt t.nodes k.root tree
@@ -58,9 +58,7 @@ IsOpen t k = (tree : ChoiceTree) → StandsAt t.nodes k.root tree → AllLeaves 
 -- and atom, in order
 pub record IsBegun (a : Automaton) (c : Claim State) (choices : List Choice) : Type 0 where
   pub last : is_last_in a c.left ≡ true → list_any (is_last_in a) c.rights ≡ true
-  pub named : Named
-  pub names : AreNames (heads_of a c.left ++ right_heads (heads_of a) c) named
-  pub complete : map choice_key choices ≡ wanted_cases named 1 (heads_of a c.left)
+  pub complete : map choice_key choices ≡ wanted (heads_of a c.left) (right_heads (heads_of a) c)
 
 -- a goal that was worked on: it holds, or has choices from when it held
 abbrev pub HasChoices : GoalRow → Type 0

@@ -7,15 +7,16 @@ use Rattle.xd_doc.specs.declared.store.Seq.{Seq}
 use Rattle.xd_auto.specs.declared.auto.State.{State}
 use Rattle.xd_auto.specs.Automaton.{Automaton, accepts}
 use Rattle.xd_rules.specs.Members.{IsOneOf}
-use Rattle.xd_rules.specs.Rules.{Claim, ChoiceTree, ContentLeaf, RestLeaf, SplitOn, AllLeaves}
+use Rattle.xd_rules.specs.Rules.{Claim, ChoiceTree, settles_content, settles_rest, split_on}
+use Rattle.xd_rules.specs.Meaning.{AllLeaves}
 use Rattle.std.specs.List.{AllByRecursion}
-use Rattle.xd_rules.specs.Moves.{AreBelow, IsInOrder, claim_with, with_state}
+use Rattle.xd_state_heads.specs.Moves.{AreBelow, IsInOrder, claim_with, with_state}
 use Rattle.xd_goals.specs.Rows.{GoalRow, TableView, row_at, claim_at, IsRefuted, IsListed}
 use Rattle.xd_goals.specs.declared.table.ChoiceNode.{ChoiceNode}
 use Rattle.xd_goals.specs.declared.table.GoalCase.{GoalCase}
 use Rattle.xd_goals.specs.declared.table.ChoiceNode.TheVariants.{Split, Content, Rest}
 use Rattle.xd_goals.specs.declared.table.Standing.TheVariants.{Refuted}
-use Rattle.xd_rules.specs.declared.heads.Side.{Side}
+use Rattle.xd_state_heads.specs.declared.heads.Side.{Side}
 use Rattle.xd_goals.specs.declared.grow.Task.{Task}
 use Rattle.xd_goals.specs.declared.grow.Grown.{Grown}
 use Rattle.xd_goals.specs.declared.grow.Grown.TheVariants.{Stands, Fails}
@@ -24,9 +25,9 @@ use Rattle.xd_goals.specs.declared.grow.Growth.TheVariants.{Ends, Splits}
 
 -- the tree stands at this node, and its parts at older ones
 abbrev pub StandsAt : List ChoiceNode → ℕ → ChoiceTree → Type 0
-StandsAt nodes n (ContentLeaf g) = slice_get nodes n ≡ Some (Content (record { number = g }))
-StandsAt nodes n (RestLeaf g) = slice_get nodes n ≡ Some (Rest (record { number = g }))
-StandsAt nodes n (SplitOn j a b) = (x : ℕ) × (y : ℕ) × (slice_get nodes n ≡ Some (Split j x y)) × (x < n) × (y < n) × StandsAt nodes x a × StandsAt nodes y b
+StandsAt nodes n (settles_content g) = slice_get nodes n ≡ Some (Content (record { number = g }))
+StandsAt nodes n (settles_rest g) = slice_get nodes n ≡ Some (Rest (record { number = g }))
+StandsAt nodes n (split_on j a b) = (x : ℕ) × (y : ℕ) × (slice_get nodes n ≡ Some (Split j x y)) × (x < n) × (y < n) × StandsAt nodes x a × StandsAt nodes y b
 
 -- a right head, of which nothing is on the two sides
 pub record IsFree (sides : List Side) (contents rests : List State) (side : Side) : Type 0 where
@@ -38,9 +39,9 @@ pub record IsFree (sides : List Side) (contents rests : List State) (side : Side
 -- a tree over a content and a rest, on a path that put right heads on the two sides: it splits on
 -- one that is on neither, and each leaf's rights are its side
 abbrev pub IsGrown : List GoalRow → Task → List Side → ChoiceTree → List State → List State → Type 0
-IsGrown rows task sides (ContentLeaf g) contents rests = claim_at rows g ≡ Some (claim_with task.content contents)
-IsGrown rows task sides (RestLeaf g) contents rests = claim_at rows g ≡ Some (claim_with task.rest rests)
-IsGrown rows task sides (SplitOn j a b) contents rests =
+IsGrown rows task sides (settles_content g) contents rests = claim_at rows g ≡ Some (claim_with task.content contents)
+IsGrown rows task sides (settles_rest g) contents rests = claim_at rows g ≡ Some (claim_with task.rest rests)
+IsGrown rows task sides (split_on j a b) contents rests =
     (side : Side) × (j ≡ side.number) × IsFree sides contents rests side
     × IsGrown rows task sides a (with_state side.content contents) rests
     × IsGrown rows task sides b contents (with_state side.rest rests)
@@ -52,9 +53,9 @@ gathered states (s ∷ ss) = gathered (with_state s.rest states) ss
 
 -- the tree of a text: one leaf
 abbrev pub IsTextTree : List GoalRow → Task → List Side → ChoiceTree → Type 0
-IsTextTree rows task sides (ContentLeaf g) = ⊥
-IsTextTree rows task sides (RestLeaf g) = claim_at rows g ≡ Some (claim_with task.rest (gathered [] sides))
-IsTextTree rows task sides (SplitOn j a b) = ⊥
+IsTextTree rows task sides (settles_content g) = ⊥
+IsTextTree rows task sides (settles_rest g) = claim_at rows g ≡ Some (claim_with task.rest (gathered [] sides))
+IsTextTree rows task sides (split_on j a b) = ⊥
 
 abbrev pub IsTreeBySort : Bool → List GoalRow → Task → List Side → ChoiceTree → Type 0
 IsTreeBySort true rows task sides tree = IsTextTree rows task sides tree

@@ -4,10 +4,9 @@ ghost use Rattle.std.specs.Prelude.{◌≡◌, ℕ, ◌<◌, ◌++◌, ◌∷◌
 ghost use Rattle.std.specs.Cmp.Lexicographic.{pointwise};
 ghost use Rattle.xd_auto.specs.Automaton.{state_number};
 ghost use Rattle.xd_doc.specs.StoredSeq.{IsBelow};
-ghost use Rattle.xd_rules.specs.Moves.{AreBelow, claim_with};
-ghost use Rattle.xd_goals.specs.Rows.{IsListed, IsRefuted, NodeStands, claim_at, claim_key, new_row, row_at};
+ghost use Rattle.xd_state_heads.specs.Moves.{AreBelow, claim_with};
+ghost use Rattle.xd_goals.specs.Rows.{IsListed, IsRefuted, NodeStands, claim_at, claim_key, new_row, row_at, Leads};
 ghost use Rattle.xd_goals.specs.Kept.{AreLinked, AreThese, BeginsWith, Grows, GrowsBy, IsConsistent, IsWoken, Refutes, found_at, view_of, with_choice, with_flag, with_mark, with_standing};
-ghost use Rattle.xd_goals.specs.Rows.{Leads};
 
 use crate::table::{Choice, ChoiceNode, GoalCase, GoalId, Link, Row, Standing};
 use std::alloc::Global;

@@ -2,12 +2,12 @@
 
 ghost use Rattle.std.specs.Prelude.{◌≡◌, ◌<◌, [], length, Some, slice_get, IfOk};
 ghost use Rattle.xd_auto.specs.Automaton.{state_number};
-ghost use Rattle.xd_rules.specs.Moves.{AreBelow, IsInOrder, claim_with, with_state};
+ghost use Rattle.xd_state_heads.specs.Moves.{AreBelow, IsInOrder, claim_with, with_state};
 ghost use Rattle.xd_goals.specs.Rows.{IsRefuted, claim_at};
 ghost use Rattle.xd_goals.specs.Kept.{Grows, IsConsistent, view_of};
 ghost use Rattle.xd_goals.specs.Progress.{CanGrow, HasGrown, IsGrownFrom};
 ghost use Rattle.xd_goals.specs.Trees.{GoesOnAs, GrownAs, HasOpenTree, HasTree, IsFailure, IsFree, IsGrown, IsLeafFor, IsNumbered, IsPathBelow, IsSplitAt, IsTextFailure, IsTextTree, gathered};
-ghost use Rattle.xd_rules.specs.declared.heads.Side.{Side};
+ghost use Rattle.xd_state_heads.specs.declared.heads.Side.{Side};
 
 use crate::goals::{Goals, add_node, depend, find_or_add};
 use crate::table::{ChoiceNode, GoalCase, GoalId, Standing};
@@ -15,7 +15,7 @@ use crate::takers::taker;
 use std::alloc::Global;
 use xd_auto::{Answers, Auto, State};
 use xd_doc::{NoMemory, Seq, Store};
-use xd_rules::Side;
+use xd_state_heads::Side;
 
 /// What a choice tree is for: its case, what the left head says of the content and the rest, and
 /// the number of the automaton's states, of which only contracts speak.

@@ -6,7 +6,7 @@ ghost use Rattle.std.specs.List.{AllByRecursion};
 ghost use Rattle.xd_doc.specs.StoreNodes.{Keeps};
 ghost use Rattle.xd_auto.specs.declared.auto.State.{State};
 ghost use Rattle.xd_auto.specs.Automaton.{IsState};
-ghost use Rattle.xd_rules.specs.Moves.{claim_with};
+ghost use Rattle.xd_state_heads.specs.Moves.{claim_with};
 ghost use Rattle.xd_goals.specs.Rows.{claim_at};
 ghost use Rattle.xd_goals.specs.Kept.{IsWhole, view_of};
 ghost use Rattle.xd_goals.specs.Standing.{KeepsGoals, StandsOn};

@@ -2,8 +2,9 @@
 
 ghost use Rattle.std.specs.Prelude.{◌≡◌, ◌⊎◌, ℕ, ◌<◌, [], true, false, length, IfOk, OnOk};
 ghost use Rattle.std.specs.List.{AllByRecursion};
-ghost use Rattle.xd_rules.specs.Rules.{ChoiceTree, AllLeaves};
-ghost use Rattle.xd_rules.specs.Members.{SomeOf};
+ghost use Rattle.xd_rules.specs.Rules.{ChoiceTree};
+ghost use Rattle.xd_rules.specs.Meaning.{AllLeaves};
+ghost use Rattle.xd_rules.specs.Listed.{SomeOf};
 ghost use Rattle.xd_goals.specs.Rows.{IsRefuted, row_at};
 ghost use Rattle.xd_goals.specs.Kept.{IsMarking, view_of};
 ghost use Rattle.xd_goals.specs.Trees.{StandsAt};

@@ -6,12 +6,12 @@ ghost use Rattle.xd_doc.specs.StoredSeq.{BelongsTo};
 ghost use Rattle.xd_auto.specs.Automaton.{IsState};
 ghost use Rattle.xd_auto.specs.Kept.{AreRight};
 ghost use Rattle.xd_goals.specs.Trees.{IsTaker, takes};
-ghost use Rattle.xd_rules.specs.declared.heads.Side.{Side};
+ghost use Rattle.xd_state_heads.specs.declared.heads.Side.{Side};
 
 use crate::grow::{Setting, side_of};
 use xd_auto::{Answers, Auto, State, accepts_kept};
 use xd_doc::{Label, NoMemory, Seq, Store};
-use xd_rules::Side;
+use xd_state_heads::Side;
 
 /// Whether a right head takes an element with this content and this rest.
 fn is_taker(

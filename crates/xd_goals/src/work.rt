@@ -6,12 +6,12 @@ ghost use Rattle.xd_doc.specs.Stored.{document_at};
 ghost use Rattle.xd_doc.specs.StoredSeq.{BelongsTo};
 ghost use Rattle.xd_doc.specs.StoreNodes.{Keeps};
 ghost use Rattle.xd_auto.specs.Automaton.{IsState};
-ghost use Rattle.xd_rules.specs.Heads.{is_text_atom};
-ghost use Rattle.xd_rules.specs.Moves.{claim_with, is_last_in};
+ghost use Rattle.xd_rules.specs.Meaning.{is_text_atom};
+ghost use Rattle.xd_state_heads.specs.Moves.{claim_with, is_last_in};
 ghost use Rattle.xd_goals.specs.Rows.{IsRefuted, IsUnbroken, claim_of, row_at};
 ghost use Rattle.xd_goals.specs.Kept.{view_of};
 ghost use Rattle.xd_goals.specs.Cases.{BeginsAs, FailsAt, IsCaseGrown, IsMended, IsMending, IsSettling, IsUncovered, case_end_of};
-ghost use Rattle.xd_rules.specs.Wants.{IsCaseOf};
+ghost use Rattle.xd_state_heads.specs.Wants.{IsCaseOf};
 ghost use Rattle.xd_goals.specs.Standing.{IsSeparatedBy};
 ghost use Rattle.xd_goals.specs.Facts.{ChoiceStands, FactsOn};
 ghost use Rattle.xd_goals.specs.Reached.{HasTreeWithin, IsOpenAt, IsWaitingIn};
@@ -25,7 +25,8 @@ use std::alloc::Global;
 use xd_auto::{Answers, Auto, State};
 use xd_doc::{NoMemory, Seq, Store};
 use xd_empty::{some_label, some_text};
-use xd_rules::{Atom, Unnamed, Want, goal_cases, head_of, is_text, share, sides_of, unnamed_of};
+use xd_rules::{Atom, is_text, share};
+use xd_state_heads::{Unnamed, Want, goal_cases, head_of, sides_of, unnamed_of};
 
 /// Whether some state accepts the empty document.
 fn any_last(auto: &Auto, states: &[State]) -> bool

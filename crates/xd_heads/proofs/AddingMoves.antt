@@ -21,7 +21,7 @@ use Rattle.xd_auto.specs.Automaton.{accepts, Automaton, state_number, with_label
 use Rattle.xd_auto.specs.declared.auto.State.{State}
 use Rattle.xd_auto.specs.declared.auto.LabelMove.{LabelMove}
 use Rattle.xd_auto.specs.declared.auto.TextMove.{TextMove}
-use Rattle.xd_meaning.specs.Heads.{element_in, text_in}
+use Rattle.xd_rules.specs.Heads.{element_in, text_in}
 use Rattle.xd_continuations.specs.Continuation.{Move, moves, IsMerged, AreMerged}
 use Rattle.xd_sound.specs.TypeNames.{meanings}
 use Rattle.xd_moves.specs.Found.{continuation, AddsCells, IsContent, AreMovesOf, IsFound, move_at}

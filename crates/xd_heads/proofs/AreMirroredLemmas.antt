@@ -13,7 +13,7 @@ use Rattle.xd_auto.specs.Automaton.{Automaton, StateMoves, no_moves, state_numbe
 use Rattle.xd_auto.specs.declared.auto.State.{State}
 use Rattle.xd_auto.specs.declared.auto.LabelMove.{LabelMove}
 use Rattle.xd_auto.specs.declared.auto.TextMove.{TextMove}
-use Rattle.xd_meaning.specs.Heads.{element_in, text_in}
+use Rattle.xd_rules.specs.Heads.{element_in, text_in}
 use Rattle.xd_continuations.specs.Continuation.{Move, moves, IsContinuation}
 use Rattle.xd_continuations.specs.Chains.{KeepsLinks}
 use Rattle.xd_continuations.specs.Bounds.{IsBounded}

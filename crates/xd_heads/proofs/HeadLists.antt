@@ -16,8 +16,9 @@ use Rattle.xd_syntax.specs.declared.types.TypeId.{TypeId}
 use Rattle.xd_doc.specs.Classes.{LabelClass, TextClass}
 use Rattle.xd_syntax.specs.SoundTables.{IsTypeAt}
 use Rattle.xd_sound.proofs.AdoptLaws.{type_kept}
-use Rattle.xd_meaning.specs.Heads.{HeadKind, element_in, text_in, heads, pieces, all_texts}
-use Rattle.xd_meaning.specs.Heads as laws
+use Rattle.xd_rules.specs.Heads.{HeadKind, element_in, text_in}
+use Rattle.xd_meaning.specs.Heads.{heads, pieces, all_texts}
+use Rattle.xd_rules.specs.Heads as inclusion
 use Rattle.xd_continuations.specs.Continuation.{Move, moves, head_of, IsMerged, IsContinuation}
 use Rattle.xd_continuations.specs.Depths.{IsNoDeeper}
 use Rattle.xd_continuations.proofs.IsMergedLemmas.{tree_merged}
@@ -36,10 +37,9 @@ use Rattle.xd_moves.specs.declared.expansion.Found.{Found}
 use Rattle.xd_heads.specs.declared.listing.Head.{Head}
 use Rattle.xd_heads.proofs.AddingMoves.{none_deeper}
 use Rattle.xd_heads.proofs.GrowsTypesLemmas.{grows_then}
-use Rattle.xd_continuations.proofs.GrownTables.{tree_stays, more_rows}
+use Rattle.xd_continuations.proofs.GrownTables.{tree_stays, more_rows, bodies_stand}
 use Rattle.xd_heads.proofs.Mirrored.{continuation_stays, shallow_before}
 use Rattle.xd_heads.proofs.KeepsStatesLemmas.{are_merged}
-use Rattle.xd_continuations.proofs.GrownTables.{bodies_stand}
 
 -- ---- one head
 
@@ -63,11 +63,11 @@ stands_before (Opt T) K = record { kind = refl; content = refl; rest = refl }
 stands_before (Val x T) K = record { kind = refl; content = refl; rest = refl }
 
 pub same_head : (k l : HeadKind) (C D R S : Tree) → k ≡ l → C ≡ D → R ≡ S →
-    (let h : laws.Head = record { kind = k; content = C; rest = R } in h) ≡ (let h : laws.Head = record { kind = l; content = D; rest = S } in h)
+    (let h : inclusion.Head Tree = record { kind = k; content = C; rest = R } in h) ≡ (let h : inclusion.Head Tree = record { kind = l; content = D; rest = S } in h)
 same_head k l C D R S a b c =
-    ap (λ (x : HeadKind). let h : laws.Head = record { kind = x; content = C; rest = R } in h) a
-    ∙ ap (λ (x : Tree). let h : laws.Head = record { kind = l; content = x; rest = R } in h) b
-    ∙ ap (λ (x : Tree). let h : laws.Head = record { kind = l; content = D; rest = x } in h) c
+    ap (λ (x : HeadKind). let h : inclusion.Head Tree = record { kind = x; content = C; rest = R } in h) a
+    ∙ ap (λ (x : Tree). let h : inclusion.Head Tree = record { kind = l; content = x; rest = R } in h) b
+    ∙ ap (λ (x : Tree). let h : inclusion.Head Tree = record { kind = l; content = D; rest = x } in h) c
 
 pub elem_kind : (types : List Row) (T : Tree) (k copy : LabelClass) (part : TypeId) → T ≡ Elem k (tree types part) → copy ≡ k → BelongsTo types part → IsKindOf types T (Label copy, Some part)
 elem_kind types T k copy part e c b =

@@ -15,7 +15,8 @@ use Rattle.xd_auto.specs.Automaton.{Automaton, moves_at, no_moves, state_number}
 use Rattle.xd_auto.specs.declared.auto.State.{State}
 use Rattle.xd_auto.specs.declared.auto.LabelMove.{LabelMove}
 use Rattle.xd_auto.specs.declared.auto.TextMove.{TextMove}
-use Rattle.xd_meaning.specs.Heads.{Head, heads, pieces}
+use Rattle.xd_rules.specs.Heads.{Head}
+use Rattle.xd_meaning.specs.Heads.{heads, pieces}
 use Rattle.xd_continuations.specs.Continuation.{Move, moves, head_of, AreMerged, IsContinuation}
 use Rattle.xd_continuations.specs.Mirrors.{Continuations, AreMirrored, no_move, on_label, on_text}
 use Rattle.xd_continuations.specs.Bounds.{node_count, IsBounded}
@@ -55,7 +56,7 @@ module _ (C : Continuations) (good : (s : State) (K : List Tree) → C s ≡ Som
       go None q h = cc
       go (Some L) q h = let m : seq_of L ≡ seq_of K = cc in q ∙ ap Some (one_meaning L K (good s L q) k m)
 
-  from_heads : (ms : List Move) → AllByRecursion IsMove ms → {hs : List Head} {ls : List LabelMove} {ts : List TextMove} → hs ≡ map head_of ms → AreHeadMoves (by_type C) hs ls ts → AreMirrored C ms ls ts
+  from_heads : (ms : List Move) → AllByRecursion IsMove ms → {hs : List (Head Tree)} {ls : List LabelMove} {ts : List TextMove} → hs ≡ map head_of ms → AreHeadMoves (by_type C) hs ls ts → AreMirrored C ms ls ts
   from_heads [] i e no_head = no_move
   from_heads [] i e (element_head k c r a) = cc
   from_heads [] i e (text_head k r a) = cc
@@ -63,13 +64,13 @@ module _ (C : Continuations) (good : (s : State) (K : List Tree) → C s ≡ Som
   from_heads (m ∷ ms) i e (element_head {h} {hs} {l} {ls} {ts} k c r a) =
       let q : h ≡ head_of m = cc in
       let n : hs ≡ map head_of ms = cc in
-      on_label (sym (ap (λ (x : Head). x.kind) q) ∙ k)
-      (the_list l.content m.content (i.0).content (c ∙ ap (λ (x : Head). Some x.content) q))
-      (the_list l.rest m.rest (i.0).rest (r ∙ ap (λ (x : Head). Some x.rest) q)) (from_heads ms i.1 n a)
+      on_label (sym (ap (λ (x : Head Tree). x.kind) q) ∙ k)
+      (the_list l.content m.content (i.0).content (c ∙ ap (λ (x : Head Tree). Some x.content) q))
+      (the_list l.rest m.rest (i.0).rest (r ∙ ap (λ (x : Head Tree). Some x.rest) q)) (from_heads ms i.1 n a)
   from_heads (m ∷ ms) i e (text_head {h} {hs} {ls} {t} {ts} k r a) =
       let q : h ≡ head_of m = cc in
       let n : hs ≡ map head_of ms = cc in
-      on_text (sym (ap (λ (x : Head). x.kind) q) ∙ k) (the_list t.rest m.rest (i.0).rest (r ∙ ap (λ (x : Head). Some x.rest) q)) (from_heads ms i.1 n a)
+      on_text (sym (ap (λ (x : Head Tree). x.kind) q) ∙ k) (the_list t.rest m.rest (i.0).rest (r ∙ ap (λ (x : Head Tree). Some x.rest) q)) (from_heads ms i.1 n a)
 
 -- ---- beyond the states
 
@@ -192,7 +193,7 @@ module _ (old new : List Row) (k : KeepsRows old new) where
   unfolding nodes_in
   more_nodes = subst (λ rs. nodes_from old old 0 ≤ nodes_from new rs 0) (sym k.grown) (nodes_more old k.more 0 (λ j h. tree_stays old new k j (omega arith)))
 
-head_moves_more : (C D : State → Option Tree) → ((s : State) (T : Tree) → C s ≡ Some T → D s ≡ Some T) → {hs : List Head} {ls : List LabelMove} {ts : List TextMove} → AreHeadMoves C hs ls ts → AreHeadMoves D hs ls ts
+head_moves_more : (C D : State → Option Tree) → ((s : State) (T : Tree) → C s ≡ Some T → D s ≡ Some T) → {hs : List (Head Tree)} {ls : List LabelMove} {ts : List TextMove} → AreHeadMoves C hs ls ts → AreHeadMoves D hs ls ts
 head_moves_more C D f no_head = no_head
 head_moves_more C D f (element_head {h} {hs} {l} {ls} {ts} k c r a) = element_head k (f l.content h.content c) (f l.rest h.rest r) (head_moves_more C D f a)
 head_moves_more C D f (text_head {h} {hs} {ls} {t} {ts} k r a) = text_head k (f t.rest h.rest r) (head_moves_more C D f a)

@@ -19,7 +19,8 @@ use Rattle.xd_syntax.specs.Placed.{unplaced}
 use Rattle.xd_syntax.specs.Program.{TypeDefinition}
 use Rattle.xd_syntax.specs.Kept.{type_definition}
 use Rattle.xd_syntax.specs.Ways.{Among}
-use Rattle.xd_meaning.specs.Heads.{text_in, all_texts}
+use Rattle.xd_rules.specs.Heads.{text_in}
+use Rattle.xd_meaning.specs.Heads.{all_texts}
 use Rattle.xd_meaning.specs.CanBeEmpty.{can_be_empty, empty_name}
 use Rattle.xd_syntax.specs.Fits.{empty_by}
 use Rattle.xd_syntax.specs.declared.types.TypeDef.{TypeDef}
@@ -28,12 +29,11 @@ use Rattle.xd_laws.proofs.Pigeon.{NoRepeat, pigeon}
 use Rattle.xd_syntax.proofs.PlacedTrees.{unplaced_at}
 use Rattle.xd_continuations.specs.Bounds.{node_count, NoneLarger, longest}
 use Rattle.xd_continuations.specs.Chains.{list_at, AreLinks, KeepsLinks}
-use Rattle.xd_moves.specs.Cells.{room}
+use Rattle.xd_moves.specs.Cells.{room, Cell}
 use Rattle.xd_sound.specs.TypeNames.{meanings}
 use Rattle.xd_moves.specs.Pieces.{piece_tree}
 use Rattle.xd_moves.specs.Found.{continuation, move_of, AreOfTypes, AreBounded}
 use Rattle.xd_heads.specs.States.{EachOnce, number_at, AddsNumber, IsOfCell, AddsStates, nodes_from, nodes_in}
-use Rattle.xd_moves.specs.Cells.{Cell}
 use Rattle.xd_continuations.proofs.IsBoundedLemmas.{bounded_length}
 use Rattle.xd_continuations.proofs.ChainLemmas.{kept_length, lists_within_are}
 use Rattle.xd_moves.proofs.CellLemmas.{few_cells}

@@ -12,7 +12,8 @@ use Rattle.xd_syntax.specs.Shallow.{nesting_limit}
 use Rattle.xd_syntax.specs.Program.{names_of}
 use Rattle.xd_syntax.specs.Kept.{ProgramTable, program_tree}
 use Rattle.xd_syntax.specs.declared.types.TypeId.{TypeId}
-use Rattle.xd_meaning.specs.Heads.{element_in, text_in}
+use Rattle.xd_rules.specs.Heads.{element_in, text_in}
+use Rattle.xd_rules.specs.Heads as inclusion
 use Rattle.xd_meaning.specs.Heads as laws
 use Rattle.xd_continuations.specs.Chains.{KeepsLinks}
 use Rattle.xd_continuations.specs.Continuation.{Move, head_of, IsMerged, IsContinuation}
@@ -23,12 +24,12 @@ use Rattle.xd_heads.specs.declared.listing.Head.{Head}
 use Rattle.xd_heads.specs.declared.listing.HeadKind.{HeadKind}
 use Rattle.xd_heads.specs.declared.listing.HeadKind.TheVariants.{Label, Text}
 
-abbrev pub kind_at : HeadKind → laws.HeadKind
+abbrev pub kind_at : HeadKind → inclusion.HeadKind
 kind_at (Label c) = element_in c
 kind_at (Text w) = text_in w
 
 -- the head, with content and rest as types
-abbrev pub head_at : List Row → Head → laws.Head
+abbrev pub head_at : List Row → Head → inclusion.Head Tree
 head_at types h = record { kind = kind_at h.kind; content = tree types h.content; rest = tree types h.rest }
 
 -- content and rest are there

@@ -13,7 +13,8 @@ use Rattle.xd_auto.specs.Automaton.{Automaton, moves_at, state_number}
 use Rattle.xd_auto.specs.declared.auto.State.{State}
 use Rattle.xd_auto.specs.declared.auto.LabelMove.{LabelMove}
 use Rattle.xd_auto.specs.declared.auto.TextMove.{TextMove}
-use Rattle.xd_meaning.specs.Heads.{Head, element_in, text_in, heads}
+use Rattle.xd_rules.specs.Heads.{Head, element_in, text_in}
+use Rattle.xd_meaning.specs.Heads.{heads}
 use Rattle.xd_continuations.specs.Continuation.{IsContinuation}
 use Rattle.xd_moves.specs.Found.{continuation, AreBounded, AreOfTypes}
 use Rattle.xd_heads.specs.States.{IsOfCell, number_at, nodes_in}
@@ -39,11 +40,11 @@ pub record KeepsStates (old_types new_types : List Row) (old new : CellsView) : 
 -- The moves on an element are, in order, the heads that are elements, and those on a text the heads
 -- that are texts: each has the head's class, and leads to states whose continuations are the head's
 -- content and the head's rest.
-pub data AreHeadMoves (C : State → Option Tree) : List Head → List LabelMove → List TextMove → Type 0 where
+pub data AreHeadMoves (C : State → Option Tree) : List (Head Tree) → List LabelMove → List TextMove → Type 0 where
   no_head : AreHeadMoves C [] [] []
-  element_head : {h : Head} {hs : List Head} {l : LabelMove} {ls : List LabelMove} {ts : List TextMove} →
+  element_head : {h : Head Tree} {hs : List (Head Tree)} {l : LabelMove} {ls : List LabelMove} {ts : List TextMove} →
       h.kind ≡ element_in l.class → C l.content ≡ Some h.content → C l.rest ≡ Some h.rest → AreHeadMoves C hs ls ts → AreHeadMoves C (h ∷ hs) (l ∷ ls) ts
-  text_head : {h : Head} {hs : List Head} {ls : List LabelMove} {t : TextMove} {ts : List TextMove} →
+  text_head : {h : Head Tree} {hs : List (Head Tree)} {ls : List LabelMove} {t : TextMove} {ts : List TextMove} →
       h.kind ≡ text_in t.words → C t.rest ≡ Some h.rest → AreHeadMoves C hs ls ts → AreHeadMoves C (h ∷ hs) ls (t ∷ ts)
 
 -- the continuations that are kept are lists of pieces of the program's types, and short enough for

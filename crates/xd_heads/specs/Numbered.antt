@@ -6,7 +6,7 @@ use Rattle.xd_syntax.specs.RecursionFaults.{IsSound}
 use Rattle.xd_syntax.specs.Table.{Row, tree_at}
 use Rattle.xd_syntax.specs.Tree.{Tree, any_type, seq_of}
 use Rattle.xd_meaning.specs.Heads.{pieces}
-use Rattle.xd_meaning.specs.Heads as laws
+use Rattle.xd_rules.specs.Heads as inclusion
 use Rattle.xd_continuations.specs.Chains.{AreLinks, KeepsLinks}
 use Rattle.xd_moves.specs.Codes.{number_at}
 use Rattle.xd_moves.specs.Pieces.{AreFirst, IsFirst}
@@ -45,7 +45,7 @@ pub record Serves (p : ProgramTable) (l : HeadLister) : Type 0 where
   pub numbers : AreNodeNumbers p.types l.cells (length p.types) l.numbers.items
 
 -- it is this head, with its content and its rest by their numbers
-pub record IsHeadIn (types : List Row) (cells : List Cell) (made : NumberedHead) (h : laws.Head) : Type 0 where
+pub record IsHeadIn (types : List Row) (cells : List Cell) (made : NumberedHead) (h : inclusion.Head Tree) : Type 0 where
   pub kind : kind_at made.kind ≡ h.kind
   pub content : IsNumberIn types cells made.content h.content
   pub rest : IsNumberIn types cells made.rest h.rest

@@ -6,7 +6,7 @@ use Rattle.xd_doc.specs.Document.{Document, is_proper}
 use Rattle.xd_doc.proofs.Bools.{not_true_and_false}
 use Rattle.xd_auto.specs.Automaton.{Automaton, accepts}
 use Rattle.xd_auto.specs.declared.auto.State.{State}
-use Rattle.xd_rules.specs.Moves.{Accepts, claim_with}
+use Rattle.xd_state_heads.specs.Moves.{Accepts, claim_with}
 use Rattle.xd_rules.proofs.Members.{only_one}
 use Rattle.xd_goals.specs.Rows.{TableView, claim_of, row_at}
 use Rattle.xd_goals.specs.Truth.{IsIncluded}
@@ -15,7 +15,8 @@ use Rattle.xd_goals.proofs.GrowsByLemmas.{claim_within}
 use Rattle.xd_heads.specs.CellsView.{CellsView}
 use Rattle.xd_heads.specs.Mirrors.{IsTypeState, continuation_of}
 use Rattle.xd_heads.proofs.Mirrored.{type_is}
-use Rattle.xd_meaning.specs.Consistent.{IsConsistent, numbered}
+use Rattle.xd_meaning.specs.Consistent.{IsConsistent}
+use Rattle.xd_rules.specs.Rules.{numbered}
 use Rattle.xd_doc.specs.LeastUpTo.{IsLeastUpTo}
 use Rattle.xd_least.specs.Least.{size_limit}
 use Rattle.xd_apart.specs.Apart.{IsApart}

@@ -10,7 +10,8 @@ use Rattle.xd_syntax.specs.Fits.{Fits}
 use Rattle.xd_syntax.specs.NameFaults.{known_types}
 use Rattle.xd_syntax.specs.Program.{ProgramTree, names_of}
 use Rattle.xd_meaning.specs.Breach.{Lined, goals_of}
-use Rattle.xd_meaning.specs.Consistent.{Goal, IsConsistent, numbered}
+use Rattle.xd_meaning.specs.Consistent.{Goal, IsConsistent}
+use Rattle.xd_rules.specs.Rules.{numbered}
 use Rattle.xd_meaning.specs.Included.{Included}
 use Rattle.xd_proof.specs.Form.{IsProofText}
 use Rattle.xd_proof.specs.TypeTexts.{SpellsType}

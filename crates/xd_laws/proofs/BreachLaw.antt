@@ -1,18 +1,24 @@
 -- What is computed is the first breach; and there is a first breach exactly where the rules do not
 -- hold.
-use Rattle.std.proofs.Common.{◌≡◌, ℕ, suc, ◌+◌, arith, Bool, true, false, not, ◌||◌, nat_eq, List, [], ◌∷◌, map, Option, Some, None, refl, ap, sym, subst, ◌∙◌, ◌⊎◌, inl, inr}
+use Rattle.std.proofs.Common.{◌≡◌, ℕ, suc, ◌+◌, arith, Bool, true, false, not, ◌||◌, nat_eq, List, [], ◌∷◌, ◌++◌, map, Option, Some, None, refl, ap, sym, subst, ◌∙◌, ◌⊎◌, inl, inr}
 use Rattle.std.specs.List.{AllByRecursion}
 use Rattle.std.proofs.lemmas.Bool.{eq-eqb, eqb-true, and_from, or_left, or_right}
 use Rattle.std.proofs.lemmas.Slice.Eq.{bytes_eq-Decides}
 use Rattle.xd_doc.proofs.Bools.{and_parts, or_cases, not_true}
 use Rattle.xd_syntax.specs.Tree.{Tree, Definitions}
 use Rattle.xd_meaning.specs.CanBeEmpty.{can_be_empty}
-use Rattle.xd_meaning.specs.Heads.{Head, heads}
+use Rattle.xd_rules.specs.Heads.{Head, atoms_of, Named, named_in, matches}
+use Rattle.xd_meaning.specs.Heads.{heads}
 use Rattle.xd_syntax.specs.Ways.{Among}
-use Rattle.xd_meaning.specs.Consistent.{Atom, this_label, other_label, this_text, other_text, ChoiceTree, settles_content, settles_rest, split_on, Case, Goal, HeadAtom, head_atom, atoms_of, atoms_from, Named, named, wanted, numbered, right_heads, matches_atom, matching, Sides, no_sides, on_content, on_rest, HasPart, LeafRule, SplitRule, LabelTree, TextTree, TreeRule, CaseRule, EmptyRule, KeepsRules}
+use Rattle.xd_rules.specs.declared.atom.Atom.{Atom}
+use Rattle.xd_rules.specs.declared.atom.Atom.TheVariants.{Label, OtherLabel, Text, OtherText}
+use Rattle.xd_rules.specs.Rules.{Claim, ChoiceTree, settles_content, settles_rest, split_on, Case, HeadAtom, head_atom, atoms_from, wanted, numbered, matching, Sides, no_sides, on_content, on_rest, HasPart, LeafRule, SplitRule, LabelTree, TextTree, TreeRule, CaseRule}
+use Rattle.xd_meaning.specs.Consistent.{Goal, claim_of, claims, right_heads, EmptyRule, KeepsRules}
 use Rattle.xd_meaning.specs.Breach.{Reason, bad_empty, bad_case, bad_split, bad_leaf, Lined, line_behind, empty_lines, goals_of, TreeBreach, content_leaf, rest_leaf, at_split, in_content, in_rest, TextBreach, text_leaf, text_content, text_split, ChoiceBreach, CasesBreach, too_many, too_few, other_case, in_tree, later_case, GoalBreach, on_empty, in_cases, GoalsBreach, this_goal, later_goal, IsFirstBreach}
 use Rattle.xd_syntax.proofs.Members.{mem_append, mem_map}
 use Rattle.xd_laws.specs.Laws.{BreachesAreFound, RulesAreTested, BreachIsOne}
+use Rattle.xd_rules.specs.Members.{IsOneOf}
+use Rattle.xd_laws.proofs.Claims.{goal_of, goal_claim}
 use Rattle.xd_laws.proofs.SameTrees.{same_tree-is, tree_same}
 use Rattle.xd_laws.proofs.FirstWrong.{same_tree, same_atom, head_matches, has_number, has_part, some_head, each_some_head, leaf_stands, split_allowed, reason_unless, or_next, wrong_choice, wrong_text, wrong_tree, wrong_case, Refusal, at_line, same_head_atom, wrong_cases, right_is_empty, empty_stands, wrong_goal, wrong_goals, first_wrong}
 
@@ -25,22 +31,22 @@ true_not false p = refl
 same_from : (T U : Tree) → T ≡ U → same_tree T U ≡ true
 same_from T U e = subst (λ V. same_tree T V ≡ true) e (tree_same T)
 
-number_in : (ns : List ℕ) (n : ℕ) → has_number ns n ≡ true → Among n ns
+number_in : (ns : List ℕ) (n : ℕ) → has_number ns n ≡ true → IsOneOf n ns
 number_in [] n e = absurd (cc)
 number_in (m ∷ ms) n e = elim (or_cases (nat_eq m n) (has_number ms n) e) [ inl p ↦ inl (eqb-true m n p) | inr q ↦ inr (number_in ms n q) ]
 
-in_number : (ns : List ℕ) (n : ℕ) → Among n ns → has_number ns n ≡ true
+in_number : (ns : List ℕ) (n : ℕ) → IsOneOf n ns → has_number ns n ≡ true
 in_number [] n a = absurd a
 in_number (m ∷ ms) n (inl e) = or_left (nat_eq m n) (has_number ms n) (eq-eqb m n e)
 in_number (m ∷ ms) n (inr a) = or_right (nat_eq m n) (has_number ms n) (in_number ms n a)
 
-module _ (part : Head → Tree) (hs : List Head) where
-  part_there : (T : Tree) (o : Option Head) → has_part part T o ≡ true → (h : Head) × (o ≡ Some h) × (part h ≡ T)
+module _ (part : Head Tree → Tree) (hs : List (Head Tree)) where
+  part_there : (T : Tree) (o : Option (Head Tree)) → has_part part T o ≡ true → (h : Head Tree) × (o ≡ Some h) × (part h ≡ T)
   part_there T None e = absurd (cc)
   part_there T (Some h) e = (h, refl, same_tree-is (part h) T e)
 
-  there_part : (T : Tree) (o : Option Head) (h : Head) → o ≡ Some h → part h ≡ T → has_part part T o ≡ true
-  there_part T o h e p = subst (λ (q : Option Head). has_part part T q ≡ true) (sym e) (same_from (part h) T p)
+  there_part : (T : Tree) (o : Option (Head Tree)) (h : Head Tree) → o ≡ Some h → part h ≡ T → has_part part T o ≡ true
+  there_part T o h e p = subst (λ (q : Option (Head Tree)). has_part part T q ≡ true) (sym e) (same_from (part h) T p)
 
   some_there : (ns : List ℕ) (T : Tree) → some_head part hs ns T ≡ true → HasPart part hs ns T
   some_there [] T e = absurd (cc)
@@ -50,7 +56,7 @@ module _ (part : Head → Tree) (hs : List Head) where
       go rec (inl p) = let r = part_there T (numbered hs n) p in (n, r.0, inl refl, r.1, r.2)
       go rec (inr q) = let r = rec q in (r.0, r.1, inr r.2, r.3, r.4)
 
-  there_some : (ns : List ℕ) (T : Tree) (n : ℕ) (h : Head) → Among n ns → numbered hs n ≡ Some h → part h ≡ T → some_head part hs ns T ≡ true
+  there_some : (ns : List ℕ) (T : Tree) (n : ℕ) (h : Head Tree) → IsOneOf n ns → numbered hs n ≡ Some h → part h ≡ T → some_head part hs ns T ≡ true
   there_some [] T n h a e p = absurd a
   there_some (m ∷ ns) T n h (inl s) e p = or_left (has_part part T (numbered hs m)) (some_head part hs ns T) (there_part T (numbered hs m) h (ap (numbered hs) s ∙ e) p)
   there_some (m ∷ ns) T n h (inr a) e p = or_right (has_part part T (numbered hs m)) (some_head part hs ns T) (there_some ns T n h a e p)
@@ -63,20 +69,22 @@ module _ (part : Head → Tree) (hs : List Head) where
   there_each ns [] a = refl
   there_each ns (T ∷ Ts) a = and_from (some_head part hs ns T) (each_some_head part hs ns Ts) (let r = a.0 in there_some ns T r.0 r.1 r.2 r.3 r.4) (there_each ns Ts a.1)
 
-  leaf_rule_of : (gs : List Goal) (left : Head) (ns : List ℕ) (n : ℕ) (o : Option Goal) → numbered gs n ≡ o → leaf_stands part left hs ns o ≡ true →
-      LeafRule part gs left hs ns n
+  leaf_rule_of : (gs : List Goal) (left : Head Tree) (ns : List ℕ) (n : ℕ) (o : Option Goal) → numbered gs n ≡ o → leaf_stands part left hs ns o ≡ true →
+      LeafRule part (claims gs) left hs ns n
   leaf_rule_of gs left ns n None q e = absurd (cc)
   leaf_rule_of gs left ns n (Some g) q e =
       let r = and_parts (same_tree g.left (part left)) (each_some_head part hs ns g.rights) e in
-      record { goal = g; stands = q; same_left = same_tree-is g.left (part left) r.0; rights_stand = each_there ns g.rights r.1 }
+      record { claim = claim_of g; stands = goal_claim gs n g q; same_left = same_tree-is g.left (part left) r.0; rights_stand = each_there ns g.rights r.1 }
 
-  rule_leaf : (gs : List Goal) (left : Head) (ns : List ℕ) (n : ℕ) → LeafRule part gs left hs ns n → leaf_stands part left hs ns (numbered gs n) ≡ true
+  rule_leaf : (gs : List Goal) (left : Head Tree) (ns : List ℕ) (n : ℕ) → LeafRule part (claims gs) left hs ns n → leaf_stands part left hs ns (numbered gs n) ≡ true
   rule_leaf gs left ns n r =
-      subst (λ (o : Option Goal). leaf_stands part left hs ns o ≡ true) (sym r.stands)
-      (and_from (same_tree (r.goal).left (part left)) (each_some_head part hs ns (r.goal).rights) (same_from (r.goal).left (part left) r.same_left) (there_each ns (r.goal).rights r.rights_stand))
+      let g = goal_of gs n r.claim r.stands in
+      subst (λ (o : Option Goal). leaf_stands part left hs ns o ≡ true) (sym g.1)
+      (and_from (same_tree (g.0).left (part left)) (each_some_head part hs ns (g.0).rights) (same_from (g.0).left (part left) (ap (λ (c : Claim Tree). c.left) g.2 ∙ r.same_left))
+      (there_each ns (g.0).rights (subst (λ (c : Claim Tree). AllByRecursion (HasPart part hs ns) c.rights) (sym g.2) r.rights_stand)))
 
-module _ (a : Atom) (hs : List Head) where
-  head_there : (o : Option Head) → head_matches a o ≡ true → (h : Head) × (o ≡ Some h) × (matches_atom a h.kind ≡ true)
+module _ (a : Atom) (hs : List (Head Tree)) where
+  head_there : (o : Option (Head Tree)) → head_matches a o ≡ true → (h : Head Tree) × (o ≡ Some h) × (matches h.kind a ≡ true)
   head_there None e = absurd (cc)
   head_there (Some h) e = (h, refl, e)
 
@@ -96,22 +104,22 @@ module _ (a : Atom) (hs : List Head) where
   rule_split : (s : Sides) (n : ℕ) → SplitRule a hs s n → split_allowed a hs s n ≡ true
   rule_split s n r =
       and_from (head_matches a (numbered hs n)) (not (has_number s.content n || has_number s.rest n))
-      (subst (λ (o : Option Head). head_matches a o ≡ true) (sym r.stands) r.fits)
+      (subst (λ (o : Option (Head Tree)). head_matches a o ≡ true) (sym r.stands) r.fits)
       (true_not (has_number s.content n || has_number s.rest n)
       (λ e. elim (or_cases (has_number s.content n) (has_number s.rest n) e) [ inl p ↦ r.new_to_content (number_in s.content n p) | inr q ↦ r.new_to_rest (number_in s.rest n q) ]))
 
 atom_is : (a b : Atom) → same_atom a b ≡ true → a ≡ b
-atom_is (this_label l) (this_label m) e = ap this_label ((bytes_eq-Decides l m).0 e)
-atom_is other_label other_label e = refl
-atom_is (this_text s) (this_text t) e = ap this_text ((bytes_eq-Decides s t).0 e)
-atom_is other_text other_text e = refl
+atom_is (Label l) (Label m) e = ap Label ((bytes_eq-Decides l m).0 e)
+atom_is OtherLabel OtherLabel e = refl
+atom_is (Text s) (Text t) e = ap Text ((bytes_eq-Decides s t).0 e)
+atom_is OtherText OtherText e = refl
 atom_is _ _ e = absurd (cc)
 
 atom_same : (a : Atom) → same_atom a a ≡ true
-atom_same (this_label l) = (bytes_eq-Decides l l).1 refl
-atom_same other_label = refl
-atom_same (this_text s) = (bytes_eq-Decides s s).1 refl
-atom_same other_text = refl
+atom_same (Label l) = (bytes_eq-Decides l l).1 refl
+atom_same OtherLabel = refl
+atom_same (Text s) = (bytes_eq-Decides s s).1 refl
+atom_same OtherText = refl
 
 abbrev pair : ℕ → Atom → HeadAtom
 pair n a = (n, a)
@@ -149,43 +157,43 @@ split_says H K L C D F None None (Some r) h k l f g = g h k r l
 split_says H K L C D F None (Some r) q h k l f g = f h r k
 split_says H K L C D F (Some r) p q h k l f g = h
 
-module _ (gs : List Goal) (a : Atom) (left : Head) (hs : List Head) where
-  choice_says : (s : Sides) (t : ChoiceTree) → Says (LabelTree gs a left hs s t) (TreeBreach gs a left hs s t) (wrong_choice gs a left hs s t)
+module _ (gs : List Goal) (a : Atom) (left : Head Tree) (hs : List (Head Tree)) where
+  choice_says : (s : Sides) (t : ChoiceTree) → Says (LabelTree (claims gs) a left hs s t) (TreeBreach (claims gs) a left hs s t) (wrong_choice gs a left hs s t)
   choice_says s (settles_content n) =
-      test_says (LeafRule (λ h. h.content) gs left hs s.content n) (TreeBreach gs a left hs s (settles_content n)) (leaf_stands (λ h. h.content) left hs s.content (numbered gs n)) bad_leaf
+      test_says (LeafRule (λ h. h.content) (claims gs) left hs s.content n) (TreeBreach (claims gs) a left hs s (settles_content n)) (leaf_stands (λ h. h.content) left hs s.content (numbered gs n)) bad_leaf
       (leaf_rule_of (λ h. h.content) hs gs left s.content n (numbered gs n) refl) (rule_leaf (λ h. h.content) hs gs left s.content n) (λ f. content_leaf f)
   choice_says s (settles_rest n) =
-      test_says (LeafRule (λ h. h.rest) gs left hs s.rest n) (TreeBreach gs a left hs s (settles_rest n)) (leaf_stands (λ h. h.rest) left hs s.rest (numbered gs n)) bad_leaf
+      test_says (LeafRule (λ h. h.rest) (claims gs) left hs s.rest n) (TreeBreach (claims gs) a left hs s (settles_rest n)) (leaf_stands (λ h. h.rest) left hs s.rest (numbered gs n)) bad_leaf
       (leaf_rule_of (λ h. h.rest) hs gs left s.rest n (numbered gs n) refl) (rule_leaf (λ h. h.rest) hs gs left s.rest n) (λ f. rest_leaf f)
   choice_says s (split_on n t u) =
-      split_says (SplitRule a hs s n) (LabelTree gs a left hs (on_content n s) t) (LabelTree gs a left hs (on_rest n s) u)
-      (TreeBreach gs a left hs (on_content n s) t) (TreeBreach gs a left hs (on_rest n s) u) (TreeBreach gs a left hs s (split_on n t u))
+      split_says (SplitRule a hs s n) (LabelTree (claims gs) a left hs (on_content n s) t) (LabelTree (claims gs) a left hs (on_rest n s) u)
+      (TreeBreach (claims gs) a left hs (on_content n s) t) (TreeBreach (claims gs) a left hs (on_rest n s) u) (TreeBreach (claims gs) a left hs s (split_on n t u))
       (reason_unless (split_allowed a hs s n) bad_split) (wrong_choice gs a left hs (on_content n s) t) (wrong_choice gs a left hs (on_rest n s) u)
-      (test_says (SplitRule a hs s n) (TreeBreach gs a left hs s (split_on n t u)) (split_allowed a hs s n) bad_split (split_rule a hs s n) (rule_split a hs s n) (λ f. at_split f))
+      (test_says (SplitRule a hs s n) (TreeBreach (claims gs) a left hs s (split_on n t u)) (split_allowed a hs s n) bad_split (split_rule a hs s n) (rule_split a hs s n) (λ f. at_split f))
       (choice_says (on_content n s) t) (choice_says (on_rest n s) u) (λ h r b. in_content h b) (λ h k r b. in_rest h k b)
 
-  text_says : (t : ChoiceTree) → Says (TextTree gs a left hs t) (TextBreach gs a left hs t) (wrong_text gs a left hs t)
+  text_says : (t : ChoiceTree) → Says (TextTree (claims gs) a left hs t) (TextBreach (claims gs) a left hs t) (wrong_text gs a left hs t)
   text_says (settles_content n) = text_content
   text_says (split_on n t u) = text_split
   text_says (settles_rest n) =
-      test_says (LeafRule (λ h. h.rest) gs left hs (matching a 1 hs) n) (TextBreach gs a left hs (settles_rest n)) (leaf_stands (λ h. h.rest) left hs (matching a 1 hs) (numbered gs n)) bad_leaf
+      test_says (LeafRule (λ h. h.rest) (claims gs) left hs (matching a 1 hs) n) (TextBreach (claims gs) a left hs (settles_rest n)) (leaf_stands (λ h. h.rest) left hs (matching a 1 hs) (numbered gs n)) bad_leaf
       (leaf_rule_of (λ h. h.rest) hs gs left (matching a 1 hs) n (numbered gs n) refl) (rule_leaf (λ h. h.rest) hs gs left (matching a 1 hs) n) (λ f. text_leaf f)
 
   -- the rules allow no breach
-  tree_not : {s : Sides} {t : ChoiceTree} {r : Reason} → TreeBreach gs a left hs s t r → LabelTree gs a left hs s t → ⊥
+  tree_not : {s : Sides} {t : ChoiceTree} {r : Reason} → TreeBreach (claims gs) a left hs s t r → LabelTree (claims gs) a left hs s t → ⊥
   tree_not (content_leaf f) l = f l
   tree_not (rest_leaf f) l = f l
   tree_not (at_split f) l = f l.0
   tree_not (in_content h b) l = tree_not b l.1
   tree_not (in_rest h k b) l = tree_not b l.2
 
-  text_not : {t : ChoiceTree} {r : Reason} → TextBreach gs a left hs t r → TextTree gs a left hs t → ⊥
+  text_not : {t : ChoiceTree} {r : Reason} → TextBreach (claims gs) a left hs t r → TextTree (claims gs) a left hs t → ⊥
   text_not (text_leaf f) l = f l
   text_not text_content l = l
   text_not text_split l = l
 
   -- and there is one at most
-  tree_one : {s : Sides} {t : ChoiceTree} {r q : Reason} → TreeBreach gs a left hs s t r → TreeBreach gs a left hs s t q → r ≡ q
+  tree_one : {s : Sides} {t : ChoiceTree} {r q : Reason} → TreeBreach (claims gs) a left hs s t r → TreeBreach (claims gs) a left hs s t q → r ≡ q
   tree_one (content_leaf f) (content_leaf g) = refl
   tree_one (rest_leaf f) (rest_leaf g) = refl
   tree_one (at_split f) (at_split g) = refl
@@ -198,36 +206,36 @@ module _ (gs : List Goal) (a : Atom) (left : Head) (hs : List Head) where
   tree_one (in_rest h k b) (in_content i c) = absurd (tree_not c k)
   tree_one (in_rest h k b) (in_rest i j c) = tree_one b c
 
-  text_one : {t : ChoiceTree} {r q : Reason} → TextBreach gs a left hs t r → TextBreach gs a left hs t q → r ≡ q
+  text_one : {t : ChoiceTree} {r q : Reason} → TextBreach (claims gs) a left hs t r → TextBreach (claims gs) a left hs t q → r ≡ q
   text_one (text_leaf f) (text_leaf g) = refl
   text_one text_content text_content = refl
   text_one text_split text_split = refl
 
-module _ (gs : List Goal) (left : Head) (hs : List Head) where
-  tree_says : (a : Atom) (t : ChoiceTree) → Says (TreeRule gs a left hs t) (ChoiceBreach gs a left hs t) (wrong_tree gs a left hs t)
-  tree_says (this_label l) t = choice_says gs (this_label l) left hs no_sides t
-  tree_says other_label t = choice_says gs other_label left hs no_sides t
-  tree_says (this_text s) t = text_says gs (this_text s) left hs t
-  tree_says other_text t = text_says gs other_text left hs t
+module _ (gs : List Goal) (left : Head Tree) (hs : List (Head Tree)) where
+  tree_says : (a : Atom) (t : ChoiceTree) → Says (TreeRule (claims gs) a left hs t) (ChoiceBreach (claims gs) a left hs t) (wrong_tree gs a left hs t)
+  tree_says (Label l) t = choice_says gs (Label l) left hs no_sides t
+  tree_says OtherLabel t = choice_says gs OtherLabel left hs no_sides t
+  tree_says (Text s) t = text_says gs (Text s) left hs t
+  tree_says OtherText t = text_says gs OtherText left hs t
 
-  choice_not : (a : Atom) (t : ChoiceTree) (r : Reason) → ChoiceBreach gs a left hs t r → TreeRule gs a left hs t → ⊥
-  choice_not (this_label l) t r b k = tree_not gs (this_label l) left hs b k
-  choice_not other_label t r b k = tree_not gs other_label left hs b k
-  choice_not (this_text s) t r b k = text_not gs (this_text s) left hs b k
-  choice_not other_text t r b k = text_not gs other_text left hs b k
+  choice_not : (a : Atom) (t : ChoiceTree) (r : Reason) → ChoiceBreach (claims gs) a left hs t r → TreeRule (claims gs) a left hs t → ⊥
+  choice_not (Label l) t r b k = tree_not gs (Label l) left hs b k
+  choice_not OtherLabel t r b k = tree_not gs OtherLabel left hs b k
+  choice_not (Text s) t r b k = text_not gs (Text s) left hs b k
+  choice_not OtherText t r b k = text_not gs OtherText left hs b k
 
-  choice_one : (a : Atom) (t : ChoiceTree) (r q : Reason) → ChoiceBreach gs a left hs t r → ChoiceBreach gs a left hs t q → r ≡ q
-  choice_one (this_label l) t r q b c = tree_one gs (this_label l) left hs b c
-  choice_one other_label t r q b c = tree_one gs other_label left hs b c
-  choice_one (this_text s) t r q b c = text_one gs (this_text s) left hs b c
-  choice_one other_text t r q b c = text_one gs other_text left hs b c
+  choice_one : (a : Atom) (t : ChoiceTree) (r q : Reason) → ChoiceBreach (claims gs) a left hs t r → ChoiceBreach (claims gs) a left hs t q → r ≡ q
+  choice_one (Label l) t r q b c = tree_one gs (Label l) left hs b c
+  choice_one OtherLabel t r q b c = tree_one gs OtherLabel left hs b c
+  choice_one (Text s) t r q b c = text_one gs (Text s) left hs b c
+  choice_one OtherText t r q b c = text_one gs OtherText left hs b c
 
 -- the head and atom are of one of these heads
-abbrev Stands : List Head → HeadAtom → Type 0
-Stands hs w = (h : Head) × (numbered hs w.0 ≡ Some h)
+abbrev Stands : List (Head Tree) → HeadAtom → Type 0
+Stands hs w = (h : Head Tree) × (numbered hs w.0 ≡ Some h)
 
-atoms_stand : (names : Named) (n : ℕ) (hs : List Head) (w : HeadAtom) → Among w (atoms_from names n hs)
-    → (k : ℕ) × (w.0 ≡ n + k) × (h : Head) × (numbered hs (suc k) ≡ Some h)
+atoms_stand : (names : Named) (n : ℕ) (hs : List (Head Tree)) (w : HeadAtom) → Among w (atoms_from names n hs)
+    → (k : ℕ) × (w.0 ≡ n + k) × (h : Head Tree) × (numbered hs (suc k) ≡ Some h)
 atoms_stand names n [] w m = absurd m
 atoms_stand names n (g ∷ hs) w m =
     elim (mem_append w (map (pair n) (atoms_of names g.kind)) (atoms_from names (n + 1) hs) m) [
@@ -239,16 +247,16 @@ module _ (E : Definitions) (gs : List Goal) (g : Goal) where
   abbrev Stand : List HeadAtom → Type 0
   Stand ws = (w : HeadAtom) → Among w ws → Stands (heads E g.left) w
 
-  wanted_stand : Stand (wanted E g)
+  wanted_stand : Stand (wanted (heads E g.left) (right_heads E g))
   wanted_stand w m =
-      let r = atoms_stand (named E g) 1 (heads E g.left) w m in
+      let r = atoms_stand (named_in (heads E g.left ++ right_heads E g)) 1 (heads E g.left) w m in
       let e : w.0 ≡ suc r.0 = omega (arith, r.1) in
       (r.2, ap (numbered (heads E g.left)) e ∙ r.3)
 
   abbrev Cases : List HeadAtom → List Case → Type 0
-  Cases ws cs = (map head_atom cs ≡ ws) × AllByRecursion (CaseRule E gs g) cs
+  Cases ws cs = (map head_atom cs ≡ ws) × AllByRecursion (CaseRule (claims gs) (heads E g.left) (right_heads E g)) cs
 
-  cases_joined : (c : Case) (cs : List Case) (w : HeadAtom) (ws : List HeadAtom) → head_atom c ≡ w → CaseRule E gs g c → Cases ws cs → Cases (w ∷ ws) (c ∷ cs)
+  cases_joined : (c : Case) (cs : List Case) (w : HeadAtom) (ws : List HeadAtom) → head_atom c ≡ w → CaseRule (claims gs) (heads E g.left) (right_heads E g) c → Cases ws cs → Cases (w ∷ ws) (c ∷ cs)
   cases_joined c cs w ws e r k = (ap (λ (v : HeadAtom). v ∷ map head_atom cs) e ∙ ap (λ l. w ∷ l) k.0, (r, k.1))
 
   cases_says : (n : ℕ) (ws : List HeadAtom) (cs : List Case) → Stand ws → SaysAt (Cases ws cs) (CasesBreach E gs g n ws cs) (wrong_cases E gs g n ws cs)
@@ -257,18 +265,18 @@ module _ (E : Definitions) (gs : List Goal) (g : Goal) where
   cases_says n (w ∷ ws) [] W = too_few
   cases_says n (w ∷ ws) (c ∷ cs) W = by_case (same_head_atom c w) refl (cases_says (n + 1) ws cs (λ v i. W v (inr i)))
     where
-      by_rest : (p : Option Refusal) → SaysAt (Cases ws cs) (CasesBreach E gs g (n + 1) ws cs) p → head_atom c ≡ w → CaseRule E gs g c →
+      by_rest : (p : Option Refusal) → SaysAt (Cases ws cs) (CasesBreach E gs g (n + 1) ws cs) p → head_atom c ≡ w → CaseRule (claims gs) (heads E g.left) (right_heads E g) c →
           SaysAt (Cases (w ∷ ws) (c ∷ cs)) (CasesBreach E gs g n (w ∷ ws) (c ∷ cs)) p
       by_rest None k e r = cases_joined c cs w ws e r k
       by_rest (Some q) b e r = later_case e r b
 
-      by_tree : (left : Head) → numbered (heads E g.left) c.head ≡ Some left → head_atom c ≡ w → (o : Option Reason)
-          → Says (TreeRule gs c.atom left (right_heads E g) c.choice) (ChoiceBreach gs c.atom left (right_heads E g) c.choice) o → SaysAt (Cases ws cs) (CasesBreach E gs g (n + 1) ws cs) (wrong_cases E gs g (n + 1) ws cs)
+      by_tree : (left : Head Tree) → numbered (heads E g.left) c.head ≡ Some left → head_atom c ≡ w → (o : Option Reason)
+          → Says (TreeRule (claims gs) c.atom left (right_heads E g) c.choice) (ChoiceBreach (claims gs) c.atom left (right_heads E g) c.choice) o → SaysAt (Cases ws cs) (CasesBreach E gs g (n + 1) ws cs) (wrong_cases E gs g (n + 1) ws cs)
           → SaysAt (Cases (w ∷ ws) (c ∷ cs)) (CasesBreach E gs g n (w ∷ ws) (c ∷ cs)) (or_next (at_line n o) (wrong_cases E gs g (n + 1) ws cs))
       by_tree left q e None k m = by_rest (wrong_cases E gs g (n + 1) ws cs) m e (record { left_head = left; stands = q; tree = k })
       by_tree left q e (Some r) b m = in_tree e left q b
 
-      by_head : (o : Option Head) → numbered (heads E g.left) c.head ≡ o → head_atom c ≡ w → SaysAt (Cases ws cs) (CasesBreach E gs g (n + 1) ws cs) (wrong_cases E gs g (n + 1) ws cs)
+      by_head : (o : Option (Head Tree)) → numbered (heads E g.left) c.head ≡ o → head_atom c ≡ w → SaysAt (Cases ws cs) (CasesBreach E gs g (n + 1) ws cs) (wrong_cases E gs g (n + 1) ws cs)
           → SaysAt (Cases (w ∷ ws) (c ∷ cs)) (CasesBreach E gs g n (w ∷ ws) (c ∷ cs)) (or_next (at_line n (wrong_case gs (right_heads E g) c o)) (wrong_cases E gs g (n + 1) ws cs))
       by_head None q e m =
           let x = W w (inl refl) in
@@ -283,11 +291,11 @@ module _ (E : Definitions) (gs : List Goal) (g : Goal) where
       by_case true e m = by_head (numbered (heads E g.left) c.head) refl (head_atom_is c w e) m
       by_case false e m = other_case (λ q. let k = is_head_atom c w q in cc)
 
-  in_case : (c : Case) (r : Reason) (left : Head) → numbered (heads E g.left) c.head ≡ Some left → ChoiceBreach gs c.atom left (right_heads E g) c.choice r → CaseRule E gs g c → ⊥
+  in_case : (c : Case) (r : Reason) (left : Head Tree) → numbered (heads E g.left) c.head ≡ Some left → ChoiceBreach (claims gs) c.atom left (right_heads E g) c.choice r → CaseRule (claims gs) (heads E g.left) (right_heads E g) c → ⊥
   in_case c r left q b z =
       let there = z.stands in
       let s : z.left_head ≡ left = cc in
-      choice_not gs left (right_heads E g) c.atom c.choice r b (subst (λ h. TreeRule gs c.atom h (right_heads E g) c.choice) s z.tree)
+      choice_not gs left (right_heads E g) c.atom c.choice r b (subst (λ h. TreeRule (claims gs) c.atom h (right_heads E g) c.choice) s z.tree)
 
   cases_not : {n : ℕ} {ws : List HeadAtom} {cs : List Case} {m : ℕ} {r : Reason} → CasesBreach E gs g n ws cs m r → Cases ws cs → ⊥
   cases_not too_many k = let e = k.0 in cc
@@ -305,7 +313,7 @@ module _ (E : Definitions) (gs : List Goal) (g : Goal) where
   cases_one (in_tree e left p b) (other_case f) = absurd (f e)
   cases_one (in_tree {c} {r} e left p b) (in_tree {r = q} i other o d) =
       let s : other ≡ left = cc in
-      (refl, choice_one gs left (right_heads E g) c.atom c.choice r q b (subst (λ h. ChoiceBreach gs c.atom h (right_heads E g) c.choice q) s d))
+      (refl, choice_one gs left (right_heads E g) c.atom c.choice r q b (subst (λ h. ChoiceBreach (claims gs) c.atom h (right_heads E g) c.choice q) s d))
   cases_one (in_tree {c} {r} e left p b) (later_case i z d) = absurd (in_case c r left p b z)
   cases_one (later_case e z b) (other_case f) = absurd (f e)
   cases_one (later_case e z b) (in_tree {c} {r} i left p d) = absurd (in_case c r left p d z)
@@ -332,17 +340,17 @@ module _ (E : Definitions) (gs : List Goal) where
   goal_says l = by_empty (empty_stands E l.goal (l.goal).empty_right) refl
     where
       by_cases : EmptyRule E l.goal (l.goal).empty_right → (o : Option Refusal)
-          → SaysAt (Cases E gs l.goal (wanted E l.goal) (l.goal).cases) (CasesBreach E gs l.goal (line_behind l + empty_lines (l.goal).empty_right) (wanted E l.goal) (l.goal).cases) o
+          → SaysAt (Cases E gs l.goal (wanted (heads E (l.goal).left) (right_heads E l.goal)) (l.goal).cases) (CasesBreach E gs l.goal (line_behind l + empty_lines (l.goal).empty_right) (wanted (heads E (l.goal).left) (right_heads E l.goal)) (l.goal).cases) o
           → SaysAt (KeepsRules E gs l.goal) (GoalBreach E gs l) o
       by_cases e None k = record { empty = e; cases = k.0; trees = k.1 }
       by_cases e (Some p) b = in_cases e b
 
       by_empty : (b : Bool) → empty_stands E l.goal (l.goal).empty_right ≡ b
           → SaysAt (KeepsRules E gs l.goal) (GoalBreach E gs l)
-          (or_next (at_line (line_behind l) (reason_unless b bad_empty)) (wrong_cases E gs l.goal (line_behind l + empty_lines (l.goal).empty_right) (wanted E l.goal) (l.goal).cases))
+          (or_next (at_line (line_behind l) (reason_unless b bad_empty)) (wrong_cases E gs l.goal (line_behind l + empty_lines (l.goal).empty_right) (wanted (heads E (l.goal).left) (right_heads E l.goal)) (l.goal).cases))
       by_empty true e =
-          by_cases (empty_rule E gs l.goal (l.goal).empty_right e) (wrong_cases E gs l.goal (line_behind l + empty_lines (l.goal).empty_right) (wanted E l.goal) (l.goal).cases)
-          (cases_says E gs l.goal (line_behind l + empty_lines (l.goal).empty_right) (wanted E l.goal) (l.goal).cases (wanted_stand E gs l.goal))
+          by_cases (empty_rule E gs l.goal (l.goal).empty_right e) (wrong_cases E gs l.goal (line_behind l + empty_lines (l.goal).empty_right) (wanted (heads E (l.goal).left) (right_heads E l.goal)) (l.goal).cases)
+          (cases_says E gs l.goal (line_behind l + empty_lines (l.goal).empty_right) (wanted (heads E (l.goal).left) (right_heads E l.goal)) (l.goal).cases (wanted_stand E gs l.goal))
       by_empty false e = on_empty (λ r. let k = rule_empty E gs l.goal (l.goal).empty_right r in cc)
 
   goal_not : {l : Lined} {m : ℕ} {r : Reason} → GoalBreach E gs l m r → KeepsRules E gs l.goal → ⊥

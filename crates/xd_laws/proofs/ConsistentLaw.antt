@@ -1,202 +1,110 @@
--- In a consistent proof every goal's claim holds, by induction on the document.
-use Rattle.std.proofs.Common.{◌≡◌, ℕ, suc, ◌+◌, arith, Bool, true, false, cond, List, [], ◌∷◌, ◌++◌, map, Option, Some, None, refl, ap, sym, subst, ◌∙◌, inl, inr}
-use Rattle.std.specs.List.{AllByRecursion}
+-- In a consistent proof every goal's claim holds: heads say what fits a type, and the rules are
+-- sound.
+use Rattle.std.proofs.Common.{◌≡◌, ℕ, zero, suc, true, false, List, [], ◌∷◌, Option, Some, None, refl, ap, sym, subst, ◌∙◌, inl, inr}
+use Rattle.std.specs.List.{AllByRecursion, list_any}
 use Rattle.xd_doc.specs.Document.{Document, empty, text, element}
-use Rattle.xd_doc.specs.ClassForms.{names_label}
 use Rattle.xd_syntax.specs.Tree.{Tree, Definitions}
 use Rattle.xd_syntax.specs.Fits.{Fits}
-use Rattle.xd_meaning.specs.Included.{FitsSome}
-use Rattle.xd_laws.specs.Guarded.{Guarded}
 use Rattle.xd_syntax.specs.Ways.{Among}
+use Rattle.xd_rules.specs.Heads.{Head, HeadKind, element_in, text_in}
+use Rattle.xd_rules.specs.Members.{IsOneOf}
+use Rattle.xd_rules.specs.Listed.{SomeOf}
+use Rattle.xd_rules.specs.Rules.{Case, ChoiceTree, settles_content, settles_rest, split_on, Claim, numbered}
+use Rattle.xd_rules.specs.Meaning.{AllLeaves, IsMeaning, takes_label, takes_text}
+use Rattle.xd_rules.proofs.Members.{any-one_of, one_of-get}
+use Rattle.xd_rules.proofs.Lists.{all_at, all_places}
+use Rattle.xd_rules.proofs.Soundness.{IsSettled, holds}
+use Rattle.xd_meaning.specs.Included.{FitsSome}
 use Rattle.xd_meaning.specs.CanBeEmpty.{can_be_empty}
-use Rattle.xd_meaning.specs.Heads.{Head, heads}
+use Rattle.xd_meaning.specs.Heads.{heads}
 use Rattle.xd_meaning.specs.HeadBegins.{Begins}
-use Rattle.xd_meaning.specs.Consistent.{Atom, Goal, Case, HeadAtom, head_atom, ChoiceTree, settles_content, settles_rest, split_on, Named, named, labels_of, texts_of, numbered, matches_atom, no_sides, matching, atoms_of, atoms_from, right_heads, LabelTree, TextTree, TreeRule, CaseRule, EmptyRule, KeepsRules, IsConsistent, Claim}
-use Rattle.xd_syntax.proofs.Members.{append_left, append_right, mem_map, map_mem, mem_flat}
+use Rattle.xd_meaning.specs.Consistent.{Goal, claim_of, claims, EmptyRule, KeepsRules, IsConsistent, ClaimHolds}
+use Rattle.xd_laws.specs.Guarded.{Guarded}
+use Rattle.xd_laws.proofs.Claims.{goal_of, goal_claim}
 use Rattle.xd_laws.proofs.Documents.{filled}
 use Rattle.xd_laws.proofs.HeadsLaw.{head_fits, fits_head, empty_right, empty_exact}
-use Rattle.xd_laws.proofs.NamedAtoms.{AreNamed, names_are_named, label_by, label_atom, text_by, text_atom, label_listed, text_listed, matched_label, matched_text}
-use Rattle.xd_laws.proofs.ChoiceTrees.{numbered-among, SomeNumbered, leaf_fits, Taken, HoldsOf, walk}
 
--- each goal of the proof keeps the rules
-rules_of : (P : Goal → Type 0) (gs : List Goal) → AllByRecursion P gs → (G : Goal) → Among G gs → P G
-rules_of P [] a G m = absurd m
-rules_of P (H ∷ gs) a G (inl e) = subst P e a.0
-rules_of P (H ∷ gs) a G (inr m) = rules_of P gs a.1 G m
+one_of : {A : Type 0} (x : A) (xs : List A) → Among x xs → IsOneOf x xs
+one_of x [] m = absurd m
+one_of x (y ∷ ys) (inl e) = inl e
+one_of x (y ∷ ys) (inr m) = inr (one_of x ys m)
 
-case_of : (P : Case → Type 0) (cs : List Case) → AllByRecursion P cs → (c : Case) → Among c cs → P c
-case_of P [] a c m = absurd m
-case_of P (d ∷ cs) a c (inl e) = subst P e a.0
-case_of P (d ∷ cs) a c (inr m) = case_of P cs a.1 c m
+among : {A : Type 0} (x : A) (xs : List A) → IsOneOf x xs → Among x xs
+among x [] m = absurd m
+among x (y ∷ ys) (inl e) = inl e
+among x (y ∷ ys) (inr m) = inr (among x ys m)
 
--- a tree that keeps the rules, for a left head and one of its atoms
-abbrev HasTree : List Goal → List Head → Head → Atom → Type 0
-HasTree gs hs h a = (t : ChoiceTree) × TreeRule gs a h hs t
+module _ (E : Definitions) where
+  -- what begins as a head is taken by the head's class
+  text_taken : (h : Head Tree) (t : List ℕ) (d : Document) → Begins E h (text t d) → (takes_text h.kind t ≡ true) × Fits E h.rest d
+  text_taken h t d b = (ap (λ (k : HeadKind). takes_text k t) b.1 ∙ b.2, b.3)
 
-abbrev pair : ℕ → Atom → HeadAtom
-pair n a = (n, a)
+  text_begins : (h : Head Tree) (t : List ℕ) (d : Document) → takes_text h.kind t ≡ true → Fits E h.rest d → Begins E h (text t d)
+  text_begins h t d e f = by_kind h.kind refl
+    where
+      by_kind : (k : HeadKind) → h.kind ≡ k → Begins E h (text t d)
+      by_kind (text_in w) q = (w, q, ap (λ (x : HeadKind). takes_text x t) (sym q) ∙ e, f)
+      by_kind (element_in c) q = let none : takes_text h.kind t ≡ false = ap (λ (x : HeadKind). takes_text x t) q in absurd (cc)
 
--- an atom of a head is wanted with the head's number
-wanted_there : (names : Named) (n : ℕ) (hs : List Head) (h : Head) (a : Atom) → Among h hs → Among a (atoms_of names h.kind)
-    → (k : ℕ) × (numbered hs (suc k) ≡ Some h) × Among (pair (n + k) a) (atoms_from names n hs)
-wanted_there names n [] h a k m = absurd k
-wanted_there names n (g ∷ hs) h a (inl e) m =
-    let here : Among (pair n a) (map (pair n) (atoms_of names g.kind)) =
-    map_mem (pair n) a (atoms_of names g.kind) (subst (λ (w : Head). Among a (atoms_of names w.kind)) (sym e) m) in
-    let zero_behind : n ≡ n + 0 = omega arith in
-    (0, ap Some e, subst (λ i. Among (pair i a) (atoms_from names n (g ∷ hs))) zero_behind (append_left (pair n a) (map (pair n) (atoms_of names g.kind)) (atoms_from names (n + 1) hs) here))
-wanted_there names n (g ∷ hs) h a (inr k) m =
-    let r = wanted_there names (n + 1) hs h a k m in
-    let one_more : n + 1 + r.0 ≡ n + suc r.0 = omega arith in (
-      suc r.0,
-      r.1,
-      subst (λ i. Among (pair i a) (atoms_from names n (g ∷ hs))) one_more
-          (append_right (pair (n + 1 + r.0) a) (map (pair n) (atoms_of names g.kind)) (atoms_from names (n + 1) hs) r.2),
-    )
+  element_taken : (h : Head Tree) (l : List ℕ) (c d : Document) → Begins E h (element l c d) → (takes_label h.kind l ≡ true) × Fits E h.content c × Fits E h.rest d
+  element_taken h l c d b = (ap (λ (k : HeadKind). takes_label k l) b.1 ∙ b.2, b.3, b.4)
 
--- a number of those that match, counted from k, is that of a head which matches
-matching_head : (a : Atom) (k : ℕ) (hs : List Head) (n : ℕ) → Among n (matching a k hs)
-    → (m : ℕ) × (h : Head) × (n ≡ k + m) × (numbered hs (suc m) ≡ Some h) × (matches_atom a h.kind ≡ true)
-matching_head a k [] n i = absurd i
-matching_head a k (g ∷ hs) n i = go (matches_atom a g.kind) refl i (λ j. matching_head a (k + 1) hs n j)
-  where
-    later : (m : ℕ) × (h : Head) × (n ≡ k + 1 + m) × (numbered hs (suc m) ≡ Some h) × (matches_atom a h.kind ≡ true)
-        → (m : ℕ) × (h : Head) × (n ≡ k + m) × (numbered (g ∷ hs) (suc m) ≡ Some h) × (matches_atom a h.kind ≡ true)
-    later r = (suc r.0, r.1, omega (arith, r.2), r.3, r.4)
+  element_begins : (h : Head Tree) (l : List ℕ) (c d : Document) → takes_label h.kind l ≡ true → Fits E h.content c → Fits E h.rest d → Begins E h (element l c d)
+  element_begins h l c d e f g = by_kind h.kind refl
+    where
+      by_kind : (k : HeadKind) → h.kind ≡ k → Begins E h (element l c d)
+      by_kind (element_in w) q = (w, q, ap (λ (x : HeadKind). takes_label x l) (sym q) ∙ e, f, g)
+      by_kind (text_in w) q = let none : takes_label h.kind l ≡ false = ap (λ (x : HeadKind). takes_label x l) q in absurd (cc)
 
-    go : (b : Bool) → matches_atom a g.kind ≡ b → Among n (cond b (k ∷ matching a (k + 1) hs) (matching a (k + 1) hs))
-        → (Among n (matching a (k + 1) hs) → (m : ℕ) × (h : Head) × (n ≡ k + 1 + m) × (numbered hs (suc m) ≡ Some h) × (matches_atom a h.kind ≡ true))
-        → (m : ℕ) × (h : Head) × (n ≡ k + m) × (numbered (g ∷ hs) (suc m) ≡ Some h) × (matches_atom a h.kind ≡ true)
-    go true e (inl q) rec = (0, g, omega (arith, q), refl, e)
-    go true e (inr j) rec = later (rec j)
-    go false e j rec = later (rec j)
+  fits_some : (Ts : List Tree) (d : Document) → SomeOf (λ T. Fits E T d) Ts → FitsSome E Ts d
+  fits_some [] d s = absurd s.1
+  fits_some (T ∷ Ts) d s = elim s.1 [ inl e ↦ inl (subst (λ U. Fits E U d) (sym e) s.2) | inr m ↦ inr (fits_some Ts d (s.0, m, s.2)) ]
 
-matching_fits : (hs : List Head) (P : Head → Type 0) (a : Atom) (ns : List ℕ) → ((n : ℕ) → Among n ns → Among n (matching a 1 hs)) → SomeNumbered hs P ns
-    → (h : Head) × Among h hs × (matches_atom a h.kind ≡ true) × P h
-matching_fits hs P a [] sub s = absurd s
-matching_fits hs P a (n ∷ ns) sub (inr s) = matching_fits hs P a ns (λ m k. sub m (inr k)) s
-matching_fits hs P a (n ∷ ns) sub (inl s) =
-    let r = matching_head a 1 hs n (sub n (inl refl)) in
-    let at : n ≡ suc r.0 = omega (arith, r.2) in
-    let there : numbered hs n ≡ Some r.1 = subst (λ w. numbered hs w ≡ Some r.1) (sym at) r.3 in
-    let same : r.1 ≡ s.0 = cc in
-    (s.0, numbered-among s.0 hs n s.1, subst (λ (w : Head). matches_atom a w.kind ≡ true) same r.4, s.2)
+  -- the heads of types say what fits them
+  types_meaning : Guarded E → IsMeaning (Fits E) (heads E) (can_be_empty E)
+  types_meaning guarded = record {
+    empty_from = empty_exact E guarded;
+    empty_to = empty_right E;
+    text_from = λ T t d f.
+        let h = fits_head E guarded T (text t d) f (filled (text t d) refl) in
+        let b = text_taken h.0 t d h.2 in
+        (h.0, one_of h.0 (heads E T) h.1, b.0, b.1);
+    text_to = λ T t d h m e f. head_fits E T h (text t d) (among h (heads E T) m) (text_begins h t d e f);
+    element_from = λ T l c d f.
+        let h = fits_head E guarded T (element l c d) f (filled (element l c d) refl) in
+        let b = element_taken h.0 l c d h.2 in
+        (h.0, one_of h.0 (heads E T) h.1, b.0, b.1, b.2);
+    element_to = λ T l c d h m e f g. head_fits E T h (element l c d) (among h (heads E T) m) (element_begins h l c d e f g);
+  }
 
-fits_one : (E : Definitions) (T : Tree) (Ts : List Tree) (d : Document) → Among T Ts → Fits E T d → FitsSome E Ts d
-fits_one E T [] d m f = absurd m
-fits_one E T (U ∷ Ts) d (inl e) f = inl (subst (λ w. Fits E w d) (sym e) f)
-fits_one E T (U ∷ Ts) d (inr m) f = inr (fits_one E T Ts d m f)
+every_leaf : (t : ChoiceTree) → AllLeaves (λ n. Unit {0}) t
+every_leaf (settles_content n) = tt
+every_leaf (settles_rest n) = tt
+every_leaf (split_on n t u) = (every_leaf t, every_leaf u)
+
+every_case : (cs : List Case) → AllByRecursion (λ (c : Case). AllLeaves (λ n. Unit {0}) c.choice) cs
+every_case [] = tt
+every_case (c ∷ cs) = (every_leaf c.choice, every_case cs)
 
 module _ (E : Definitions) (guarded : Guarded E) (gs : List Goal) (consistent : IsConsistent E gs) where
-  rules : (G : Goal) → Among G gs → KeepsRules E gs G
-  rules G m = rules_of (KeepsRules E gs) gs consistent G m
+  last : (g : Goal) (o : Option ℕ) → EmptyRule E g o → can_be_empty E g.left ≡ true → list_any (can_be_empty E) g.rights ≡ true
+  last g None e can = absurd (cc)
+  last g (Some zero) e can = absurd (let none = e.2 in cc)
+  last g (Some (suc n)) e can = any-one_of (can_be_empty E) e.1 g.rights (one_of-get e.1 g.rights n e.2) e.3
 
-  tree_there : (G : Goal) → Among G gs → (h : Head) → Among h (heads E G.left) → (a : Atom) → Among a (atoms_of (named E G) h.kind) → HasTree gs (right_heads E G) h a
-  tree_there G m h i a j =
-      let w = wanted_there (named E G) 1 (heads E G.left) h a i j in
-      let there : Among (pair (1 + w.0) a) (map head_atom G.cases) = subst (λ ws. Among (pair (1 + w.0) a) ws) (sym (rules G m).cases) w.2 in
-      let c = mem_map head_atom (pair (1 + w.0) a) G.cases there in
-      let r = case_of (CaseRule E gs G) G.cases (rules G m).trees c.0 c.1 in
-      let is_atom : (c.0).atom ≡ a = ap (λ (v : HeadAtom). v.1) c.2 in
-      let number : (c.0).head ≡ suc w.0 = ap (λ (v : HeadAtom). v.0) c.2 ∙ omega arith in
-      let k : numbered (heads E G.left) (c.0).head ≡ Some h = ap (numbered (heads E G.left)) number ∙ w.1 in
-      let q : numbered (heads E G.left) (c.0).head ≡ Some r.left_head = r.stands in
-      let same : r.left_head ≡ h = cc in
-      ((c.0).choice, subst (λ l. TreeRule gs a l (right_heads E G) (c.0).choice) same (subst (λ b. TreeRule gs b r.left_head (right_heads E G) (c.0).choice) is_atom r.tree))
+  goal_settled : (n : ℕ) (g : Goal) → numbered gs n ≡ Some g → IsSettled (heads E) (can_be_empty E) (claims gs) (λ n. Unit {0}) (claim_of g)
+  goal_settled zero g e = absurd (cc)
+  goal_settled (suc n) g e =
+      let rules = all_at (KeepsRules E gs) gs n g consistent e in
+      record {
+        cases = g.cases;
+        rules = record { last = last g g.empty_right rules.empty; complete = rules.cases; each = rules.trees };
+        leaves = every_case g.cases;
+      }
 
-  -- a right head with which the document begins
-  by_right : (G : Goal) (d : Document) (h : Head) → Among h (right_heads E G) → Begins E h d → FitsSome E G.rights d
-  by_right G d h m b =
-      let r = mem_flat (heads E) h G.rights m in fits_one E r.0 G.rights d r.1 (head_fits E r.0 h d r.2 b)
+  settled : (n : ℕ) → Unit {0} → (c : Claim Tree) → claims gs n ≡ Some c → IsSettled (heads E) (can_be_empty E) (claims gs) (λ n. Unit {0}) c
+  settled n u c e = let g = goal_of gs n c e in subst (IsSettled (heads E) (can_be_empty E) (claims gs) (λ n. Unit {0})) g.2 (goal_settled n g.0 g.1)
 
-  abbrev HoldsAt : Document → Type 0
-  HoldsAt d = (G : Goal) → Among G gs → HoldsOf E d G
-
-  at_empty : HoldsAt empty
-  at_empty G m f = by_number G.empty_right (rules G m).empty
-    where
-      can : can_be_empty E G.left ≡ true
-      can = empty_exact E guarded G.left f
-
-      by_number : (o : Option ℕ) → EmptyRule E G o → FitsSome E G.rights empty
-      by_number None e = let k : true ≡ false = sym can ∙ e in absurd (cc)
-      by_number (Some n) e = fits_one E e.1 G.rights empty (numbered-among e.1 G.rights n e.2) (empty_right E e.1 e.3)
-
-  -- each name of a head of the goal is named
-  labels_named : (G : Goal) (h : Head) → Among h (heads E G.left ++ right_heads E G) → AreNamed (labels_of h.kind) (named E G).labels
-  labels_named G h m = names_are_named labels_of h (heads E G.left ++ right_heads E G) m
-
-  texts_named : (G : Goal) (h : Head) → Among h (heads E G.left ++ right_heads E G) → AreNamed (texts_of h.kind) (named E G).texts
-  texts_named G h m = names_are_named texts_of h (heads E G.left ++ right_heads E G) m
-
-  at_text : (s : List ℕ) (r : Document) → HoldsAt r → HoldsAt (text s r)
-  at_text s r rest_holds G m f = by_right_head tree.0 (of_text (names_label (named E G).texts s) tree.0 tree.1)
-    where
-      hs : List Head
-      hs = right_heads E G
-
-      left : (h : Head) × Among h (heads E G.left) × Begins E h (text s r)
-      left = fits_head E guarded G.left (text s r) f (filled (text s r) refl)
-
-      left_are : AreNamed left.2.0.names (named E G).texts
-      left_are = subst (λ k. AreNamed (texts_of k) (named E G).texts) left.2.1 (texts_named G left.0 (append_left left.0 (heads E G.left) hs left.1))
-
-      tree : HasTree gs hs left.0 (text_atom (named E G).texts s)
-      tree = tree_there G m left.0 left.1 (text_atom (named E G).texts s)
-          (subst (λ k. Among (text_atom (named E G).texts s) (atoms_of (named E G) k)) (sym left.2.1) (text_listed (named E G) s left.2.0 left_are left.2.2))
-
-      by_right_head : (t : ChoiceTree) → TextTree gs (text_atom (named E G).texts s) left.0 hs t → FitsSome E G.rights (text s r)
-      by_right_head (settles_content n) e = absurd e
-      by_right_head (split_on n t u) e = absurd e
-      by_right_head (settles_rest n) e =
-          let x = leaf_fits E (λ w. w.rest) hs r gs left.0 (matching (text_atom (named E G).texts s) 1 hs) n e rest_holds left.2.3 in
-          let y = matching_fits hs (λ w. Fits E w.rest r) (text_atom (named E G).texts s) (matching (text_atom (named E G).texts s) 1 hs) (λ n i. i) x in
-          let k = matched_text (named E G).texts s y.0.kind (texts_named G y.0 (append_right y.0 (heads E G.left) hs y.1)) y.2 in
-          by_right G (text s r) y.0 y.1 (k.0, k.1, k.2, y.3)
-
-      of_text : (b : Bool) (t : ChoiceTree) → TreeRule gs (text_by b s) left.0 hs t → TextTree gs (text_by b s) left.0 hs t
-      of_text true t e = e
-      of_text false t e = e
-
-  at_element : (l : List ℕ) (c r : Document) → HoldsAt c → HoldsAt r → HoldsAt (element l c r)
-  at_element l c r content_holds rest_holds G m f =
-      whole (walk E gs c r content_holds rest_holds left.0 left.2.3 left.2.4 (label_atom names l) hs tree.0 no_sides (choice (names_label names l) tree.0 tree.1))
-    where
-      hs : List Head
-      hs = right_heads E G
-
-      names : List (List ℕ)
-      names = (named E G).labels
-
-      left : (h : Head) × Among h (heads E G.left) × Begins E h (element l c r)
-      left = fits_head E guarded G.left (element l c r) f (filled (element l c r) refl)
-
-      left_are : AreNamed left.2.0.names names
-      left_are = subst (λ k. AreNamed (labels_of k) names) left.2.1 (labels_named G left.0 (append_left left.0 (heads E G.left) hs left.1))
-
-      tree : HasTree gs hs left.0 (label_atom names l)
-      tree = tree_there G m left.0 left.1 (label_atom names l)
-          (subst (λ k. Among (label_atom names l) (atoms_of (named E G) k)) (sym left.2.1) (label_listed (named E G) l left.2.0 left_are left.2.2))
-
-      choice : (b : Bool) (t : ChoiceTree) → TreeRule gs (label_by b l) left.0 hs t → LabelTree gs (label_by b l) left.0 hs no_sides t
-      choice true t e = e
-      choice false t e = e
-
-      whole : Taken E c r (label_atom names l) hs no_sides → FitsSome E G.rights (element l c r)
-      whole (inr (inl x)) = absurd x
-      whole (inr (inr x)) = absurd x
-      whole (inl x) =
-          let k = matched_label names l x.0.kind (labels_named G x.0 (append_right x.0 (heads E G.left) hs x.1)) x.2 in
-          by_right G (element l c r) x.0 x.1 (k.0, k.1, k.2, x.3, x.4)
-
-  holds : (d : Document) → HoldsAt d
-  holds empty = at_empty
-  holds (text s r) = at_text s r (holds r)
-  holds (element l c r) = at_element l c r (holds c) (holds r)
-
-  each_claim : (hs : List Goal) → ((G : Goal) → Among G hs → Among G gs) → AllByRecursion (Claim E) hs
-  each_claim [] sub = tt
-  each_claim (G ∷ hs) sub = ((λ d proper f. holds d G (sub G (inl refl)) f), each_claim hs (λ H m. sub H (inr m)))
-
-  pub all_claims : AllByRecursion (Claim E) gs
-  all_claims = each_claim gs (λ G m. m)
+  pub all_claims : AllByRecursion (ClaimHolds E) gs
+  all_claims = all_places (ClaimHolds E) gs (λ n g at d proper f.
+      fits_some E g.rights d (holds (Fits E) (heads E) (can_be_empty E) (types_meaning E guarded) (claims gs) (λ n. Unit {0}) settled d (suc n) tt (claim_of g) (goal_claim gs (suc n) g at) f))

@@ -4,7 +4,9 @@ use Rattle.std.specs.Prelude.{codes}
 use Rattle.xd_syntax.specs.Tree.{Tree, Empty, Text, Words, Name, Elem, Alt, Definitions, environment, all_labels}
 use Rattle.xd_meaning.specs.CanBeEmpty.{can_be_empty}
 use Rattle.xd_meaning.specs.Heads.{heads}
-use Rattle.xd_meaning.specs.Consistent.{this_label, other_label, this_text, other_text, ChoiceTree, settles_content, settles_rest, split_on, Case, IsConsistent}
+use Rattle.xd_rules.specs.declared.atom.Atom.TheVariants as atoms
+use Rattle.xd_rules.specs.Rules.{ChoiceTree, settles_content, settles_rest, split_on, Case}
+use Rattle.xd_meaning.specs.Consistent.{IsConsistent}
 use Rattle.xd_meaning.specs.Breach.{bad_empty, bad_case, bad_split, bad_leaf, Lined, goals_of, IsFirstBreach}
 use Rattle.xd_laws.proofs.BreachLaw.{first_is, none_is}
 
@@ -21,13 +23,13 @@ abbrev tag : List ℕ → Tree → Tree
 tag l T = Elem (record { names = l ∷ []; except = false }) T
 
 abbrev label_case : ℕ → List ℕ → ChoiceTree → Case
-label_case n l t = record { head = n; atom = this_label l; choice = t }
+label_case n l t = record { head = n; atom = atoms.Label l; choice = t }
 
 abbrev other_case : ℕ → ChoiceTree → Case
-other_case n t = record { head = n; atom = other_label; choice = t }
+other_case n t = record { head = n; atom = atoms.OtherLabel; choice = t }
 
 abbrev text_case : ℕ → ChoiceTree → Case
-text_case n t = record { head = n; atom = other_text; choice = t }
+text_case n t = record { head = n; atom = atoms.OtherText; choice = t }
 
 abbrev goal_at : ℕ → Tree → List Tree → List Case → Lined
 goal_at n T Us cs = record { line = n; goal = record { left = T; rights = Us; empty_right = None; cases = cs } }
@@ -201,7 +203,7 @@ two_labels = none_is left_and_right (goal_at 3 (Elem (record { names = a ∷ b �
 -- Texts that are named.
 
 abbrev this_text_case : ℕ → List ℕ → ChoiceTree → Case
-this_text_case n s t = record { head = n; atom = this_text s; choice = t }
+this_text_case n s t = record { head = n; atom = atoms.Text s; choice = t }
 
 abbrev only_text : List ℕ → Tree
 only_text s = Words (record { names = s ∷ []; except = false })

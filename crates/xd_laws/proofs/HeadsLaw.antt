@@ -10,7 +10,8 @@ use Rattle.xd_syntax.specs.Fits.{Fits, Split, empty_by}
 use Rattle.xd_syntax.specs.Ways.{Among}
 use Rattle.xd_laws.specs.Guarded.{Front, one, Guarded, Defined}
 use Rattle.xd_meaning.specs.CanBeEmpty.{empty_definition, empty_name, can_be_empty}
-use Rattle.xd_meaning.specs.Heads.{Head, element_in, text_in, pieces, followed_by, with_behind, heads_by, heads_of_definition, heads_of_name, heads, all_texts}
+use Rattle.xd_rules.specs.Heads.{Head, element_in, text_in}
+use Rattle.xd_meaning.specs.Heads.{pieces, followed_by, with_behind, heads_by, heads_of_definition, heads_of_name, heads, all_texts}
 use Rattle.xd_meaning.specs.HeadBegins.{Begins}
 use Rattle.xd_laws.proofs.Documents.{HasItem, filled, has}
 use Rattle.xd_syntax.specs.Fits as F
@@ -81,17 +82,17 @@ behind_out E T U d f =
     let r = split_all E (pieces T) (pieces U) d (fits_all E (pieces T ++ pieces U) d f) in
     (r.0, r.1, r.2, from_pieces E T r.0 r.3, from_pieces E U r.1 r.4)
 
-begins_in : (E : Definitions) (U : Tree) (h : Head) (a b : Document) → Begins E h a → Fits E U b → Begins E (with_behind U h) (join a b)
+begins_in : (E : Definitions) (U : Tree) (h : Head Tree) (a b : Document) → Begins E h a → Fits E U b → Begins E (with_behind U h) (join a b)
 begins_in E U h empty b p g = absurd p
 begins_in E U h (text s a) b p g = (p.0, p.1, p.2, behind_in E h.rest U a b p.3 g)
 begins_in E U h (element l k a) b p g = (p.0, p.1, p.2, p.3, behind_in E h.rest U a b p.4 g)
 
-begins_out : (E : Definitions) (U : Tree) (h : Head) (d : Document) → Begins E (with_behind U h) d → Split (Begins E h) (Fits E U) d
+begins_out : (E : Definitions) (U : Tree) (h : Head Tree) (d : Document) → Begins E (with_behind U h) d → Split (Begins E h) (Fits E U) d
 begins_out E U h empty p = absurd p
 begins_out E U h (text s d) p = let r = behind_out E h.rest U d p.3 in (text s r.0, r.1, ap (text s) r.2, (p.0, p.1, p.2, r.3), r.4)
 begins_out E U h (element l k d) p = let r = behind_out E h.rest U d p.4 in (element l k r.0, r.1, ap (element l k) r.2, (p.0, p.1, p.2, p.3, r.3), r.4)
 
-begins_some : (E : Definitions) (h : Head) (d : Document) → Begins E h d → HasItem d
+begins_some : (E : Definitions) (h : Head Tree) (d : Document) → Begins E h d → HasItem d
 begins_some E h empty p = p
 begins_some E h (text s d) p = tt
 begins_some E h (element l k d) p = tt
@@ -99,49 +100,49 @@ begins_some E h (element l k d) p = tt
 fits_empty : (E : Definitions) (d : Document) → Fits E Empty d → d ≡ empty
 fits_empty E _ F.fits_empty = refl
 
-abbrev text_head : TextClass → Head
+abbrev text_head : TextClass → Head Tree
 text_head w = record { kind = text_in w; content = Empty; rest = Empty }
 
-abbrev elem_head : LabelClass → Tree → Head
+abbrev elem_head : LabelClass → Tree → Head Tree
 elem_head c T = record { kind = element_in c; content = T; rest = Empty }
 
 text_back : (E : Definitions) (w : TextClass) (T : Tree) → ((s : List ℕ) → class_has w s ≡ true → Fits E T (text s empty)) →
-    (h : Head) → text_head w ≡ h → (d : Document) → Begins E h d → Fits E T d
+    (h : Head Tree) → text_head w ≡ h → (d : Document) → Begins E h d → Fits E T d
 text_back E w T fits h e empty p = absurd p
 text_back E w T fits h e (text s d) p =
-    let i : h.rest ≡ Empty = sym (ap (λ (x : Head). x.rest) e) in
-    let a : text_in w ≡ h.kind = ap (λ (x : Head). x.kind) e in
+    let i : h.rest ≡ Empty = sym (ap (λ (x : Head Tree). x.rest) e) in
+    let a : text_in w ≡ h.kind = ap (λ (x : Head Tree). x.kind) e in
     let b = p.1 in
     let q : p.0 ≡ w = cc in
     let j = fits_empty E d (subst (λ X. Fits E X d) i p.3) in
     subst (λ r. Fits E T (text s r)) (sym j) (fits s (subst (λ x. class_has x s ≡ true) q p.2))
 text_back E w T fits h e (element l k d) p =
-    let i : text_in w ≡ h.kind = ap (λ (x : Head). x.kind) e in let j = p.1 in cc
+    let i : text_in w ≡ h.kind = ap (λ (x : Head Tree). x.kind) e in let j = p.1 in cc
 
-elem_back : (E : Definitions) (c : LabelClass) (T : Tree) (h : Head) → elem_head c T ≡ h → (d : Document) → Begins E h d → Fits E (Elem c T) d
+elem_back : (E : Definitions) (c : LabelClass) (T : Tree) (h : Head Tree) → elem_head c T ≡ h → (d : Document) → Begins E h d → Fits E (Elem c T) d
 elem_back E c T h e empty p = absurd p
 elem_back E c T h e (text s d) p =
-    let i : element_in c ≡ h.kind = ap (λ (x : Head). x.kind) e in let j = p.1 in cc
+    let i : element_in c ≡ h.kind = ap (λ (x : Head Tree). x.kind) e in let j = p.1 in cc
 elem_back E c T h e (element l k d) p =
-    let i : h.rest ≡ Empty = sym (ap (λ (x : Head). x.rest) e) in
-    let a : element_in c ≡ h.kind = ap (λ (x : Head). x.kind) e in
+    let i : h.rest ≡ Empty = sym (ap (λ (x : Head Tree). x.rest) e) in
+    let a : element_in c ≡ h.kind = ap (λ (x : Head Tree). x.kind) e in
     let b = p.1 in
     let q : p.0 ≡ c = cc in
     let j = fits_empty E d (subst (λ X. Fits E X d) i p.4) in
-    let t : h.content ≡ T = sym (ap (λ (x : Head). x.content) e) in
+    let t : h.content ≡ T = sym (ap (λ (x : Head Tree). x.content) e) in
     subst (λ r. Fits E (Elem c T) (element l k r)) (sym j) (F.fits_elem (subst (λ x. class_has x l ≡ true) q p.2) (subst (λ X. Fits E X k) t p.3))
 
 -- with an answer for emptiness that is right
 module _ (E : Definitions) (Z : Tree → Bool) (right : (T : Tree) → Z T ≡ true → Fits E T empty) where
-  turn_back : (T : Tree) (N : List ℕ → List Head) → ((h : Head) (d : Document) → Among h (heads_by Z N T) → Begins E h d → Fits E T d) →
-      (h : Head) (d : Document) → Among h (map (with_behind (Star T)) (heads_by Z N T)) → Begins E h d → Split (λ a. HasItem a × Fits E T a) (Fits E (Star T)) d
+  turn_back : (T : Tree) (N : List ℕ → List (Head Tree)) → ((h : Head Tree) (d : Document) → Among h (heads_by Z N T) → Begins E h d → Fits E T d) →
+      (h : Head Tree) (d : Document) → Among h (map (with_behind (Star T)) (heads_by Z N T)) → Begins E h d → Split (λ a. HasItem a × Fits E T a) (Fits E (Star T)) d
   turn_back T N back h d m p =
       let r = mem_map (with_behind (Star T)) h (heads_by Z N T) m in
       let q = begins_out E (Star T) r.0 d (subst (λ x. Begins E x d) (sym r.2) p) in
       (q.0, q.1, q.2, (begins_some E r.0 q.0 q.3, back r.0 q.0 r.1 q.3), q.4)
 
-  back_by : (N : List ℕ → List Head) → ((x : List ℕ) (h : Head) (d : Document) → Among h (N x) → Begins E h d → Fits E (Name x) d) →
-      (T : Tree) (h : Head) (d : Document) → Among h (heads_by Z N T) → Begins E h d → Fits E T d
+  back_by : (N : List ℕ → List (Head Tree)) → ((x : List ℕ) (h : Head Tree) (d : Document) → Among h (N x) → Begins E h d → Fits E (Name x) d) →
+      (T : Tree) (h : Head Tree) (d : Document) → Among h (heads_by Z N T) → Begins E h d → Fits E T d
   back_by N names Empty h d m p = absurd m
   back_by N names Text h d (inl e) p = text_back E all_texts Text (λ s c. F.fits_text) h e d p
   back_by N names Text h d (inr m) p = absurd m
@@ -168,12 +169,12 @@ module _ (E : Definitions) (Z : Tree → Bool) (right : (T : Tree) → Z T ≡ t
   back_by N names (Val x T) h d m p = F.fits_val (back_by N names T h d m p)
 
 -- the answer for names is right, whatever the number of rounds
-body_back : (E : Definitions) (N : Tree → List Head) (x : List ℕ) → ((T : Tree) (h : Head) (d : Document) → Among h (N T) → Begins E h d → Fits E T d) → (o : Option Tree) → body E x ≡ o →
-    (h : Head) (d : Document) → Among h (heads_of_definition N o) → Begins E h d → Fits E (Name x) d
+body_back : (E : Definitions) (N : Tree → List (Head Tree)) (x : List ℕ) → ((T : Tree) (h : Head Tree) (d : Document) → Among h (N T) → Begins E h d → Fits E T d) → (o : Option Tree) → body E x ≡ o →
+    (h : Head Tree) (d : Document) → Among h (heads_of_definition N o) → Begins E h d → Fits E (Name x) d
 body_back E N x k None e h d m p = absurd m
 body_back E N x k (Some T) e h d m p = F.fits_name e (k T h d m p)
 
-name_back : (E : Definitions) (Z : Tree → Bool) (right : (T : Tree) → Z T ≡ true → Fits E T empty) (n : ℕ) (x : List ℕ) (h : Head) (d : Document) → Among h (heads_of_name Z E n x) → Begins E h d → Fits E (Name x) d
+name_back : (E : Definitions) (Z : Tree → Bool) (right : (T : Tree) → Z T ≡ true → Fits E T empty) (n : ℕ) (x : List ℕ) (h : Head Tree) (d : Document) → Among h (heads_of_name Z E n x) → Begins E h d → Fits E (Name x) d
 name_back E Z right zero x h d m p = absurd m
 name_back E Z right (suc n) x h d m p =
     body_back E (heads_by Z (heads_of_name Z E n)) x (back_by E Z right (heads_of_name Z E n) (name_back E Z right n)) (body E x) refl h d m p
@@ -204,7 +205,7 @@ unfolding can_be_empty
 empty_right E T h = empty_right_by E (empty_name E (length E)) (empty_name_right E (length E)) T h
 
 -- what begins as a head fits
-pub head_fits : (E : Definitions) (T : Tree) (h : Head) (d : Document) → Among h (heads E T) → Begins E h d → Fits E T d
+pub head_fits : (E : Definitions) (T : Tree) (h : Head Tree) (d : Document) → Among h (heads E T) → Begins E h d → Fits E T d
 unfolding heads
 head_fits E T h d m p = back_by E (can_be_empty E) (empty_right E) (heads_of_name (can_be_empty E) E (length E)) (name_back E (can_be_empty E) (empty_right E) (length E)) T h d m p
 
@@ -212,8 +213,8 @@ one_round : (E : Definitions) (x : List ℕ) (T : Tree) → body E x ≡ Some T 
 one_round E x T q zero l f = absurd (omega arith)
 one_round E x T q (suc k) l f = rw q (f k refl)
 
-abbrev pub HasHead : Definitions → List Head → Document → Type 0
-HasHead E hs d = (h : Head) × Among h hs × Begins E h d
+abbrev pub HasHead : Definitions → List (Head Tree) → Document → Type 0
+HasHead E hs d = (h : Head Tree) × Among h hs × Begins E h d
 
 one_more : (E : Definitions) (Z : Tree → Bool) (x : List ℕ) (T : Tree) (d : Document) → body E x ≡ Some T → (n : ℕ) → 1 ≤ n →
     ((k : ℕ) → n ≡ suc k → HasHead E (heads_by Z (heads_of_name Z E k) T) d) → HasHead E (heads_of_name Z E n x) d
@@ -221,7 +222,7 @@ one_more E Z x T d q zero l f = absurd (omega arith)
 one_more E Z x T d q (suc k) l f = rw q (f k refl)
 
 -- the head of a part that isn't empty, or of what stands followed_by an empty one
-seq_head : (E : Definitions) (U : Tree) (hs ks : List Head) (z : Bool) (a b d : Document) → join a b ≡ d → HasItem d → Fits E U b →
+seq_head : (E : Definitions) (U : Tree) (hs ks : List (Head Tree)) (z : Bool) (a b d : Document) → join a b ≡ d → HasItem d → Fits E U b →
     (HasItem a → HasHead E hs a) → (a ≡ empty → (z ≡ true) × HasHead E ks b) → HasHead E (map (with_behind U) hs ++ cond z ks []) d
 seq_head E U hs ks z empty b d e s g f k =
     let r = k refl in ((r.1).0, append_right (r.1).0 (map (with_behind U) hs) (cond z ks []) (cond_in z (r.1).0 ks r.0 (r.1).1), subst (Begins E (r.1).0) e (r.1).2)
@@ -230,7 +231,7 @@ seq_head E U hs ks z (text w a) b d e s g f k =
 seq_head E U hs ks z (element w c a) b d e s g f k =
     let r = f tt in (with_behind U r.0, append_left (with_behind U r.0) (map (with_behind U) hs) (cond z ks []) (map_mem (with_behind U) r.0 hs r.1), subst (Begins E (with_behind U r.0)) e (begins_in E U r.0 (element w c a) b r.2 g))
 
-turn_head : (E : Definitions) (T : Tree) (hs : List Head) (a b d : Document) → join a b ≡ d → Fits E (Star T) b → HasHead E hs a → HasHead E (map (with_behind (Star T)) hs) d
+turn_head : (E : Definitions) (T : Tree) (hs : List (Head Tree)) (a b d : Document) → join a b ≡ d → Fits E (Star T) b → HasHead E hs a → HasHead E (map (with_behind (Star T)) hs) d
 turn_head E T hs a b d e g r =
     (with_behind (Star T) r.0, map_mem (with_behind (Star T)) r.0 hs r.1, subst (Begins E (with_behind (Star T) r.0)) e (begins_in E (Star T) r.0 a b r.2 g))
 

@@ -6,12 +6,13 @@ use Rattle.xd_syntax.specs.Fits.{Fits}
 use Rattle.xd_laws.specs.Guarded.{Front, Step, Guarded, Defined}
 use Rattle.xd_laws.specs.Guarded as R
 use Rattle.xd_meaning.specs.CanBeEmpty.{can_be_empty}
-use Rattle.xd_meaning.specs.Heads.{Head, with_behind, heads_by, heads_of_definition, heads_of_name, heads_within, heads}
+use Rattle.xd_rules.specs.Heads.{Head}
+use Rattle.xd_meaning.specs.Heads.{with_behind, heads_by, heads_of_definition, heads_of_name, heads_within, heads}
 use Rattle.xd_laws.proofs.FitsWays.{cond_same}
 use Rattle.xd_laws.proofs.HeadsLaw.{empty_right}
 use Rattle.xd_laws.proofs.Unfoldings.{Trail, trail_short}
 
-module _ (E : Definitions) (Z : Tree → Bool) (right : (T : Tree) → Z T ≡ true → Fits E T empty) (n : ℕ) (N M : List ℕ → List Head)
+module _ (E : Definitions) (Z : Tree → Bool) (right : (T : Tree) → Z T ≡ true → Fits E T empty) (n : ℕ) (N M : List ℕ → List (Head Tree))
     (same : (V : List (List ℕ)) (x : List ℕ) → (Defined E x → Trail E (x ∷ V)) → length E ≤ n + length V → N x ≡ M x) where
   same_heads_by : (T : Tree) (V : List (List ℕ)) → ((y : List ℕ) → Front E T y → Defined E y → Trail E (y ∷ V)) → length E ≤ n + length V →
       heads_by Z N T ≡ heads_by Z M T

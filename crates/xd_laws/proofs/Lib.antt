@@ -19,8 +19,7 @@ mod ConsistentSamples
 pub mod FirstWrong
 pub mod SameTrees
 pub mod BreachLaw
-pub mod NamedAtoms
-pub mod ChoiceTrees
+pub mod Claims
 pub mod ConsistentLaw
 pub mod WordLists
 pub mod WayShapes

@@ -14,7 +14,8 @@ use Rattle.xd_syntax.specs.Fits.{Fits}
 use Rattle.xd_meaning.specs.FirstMatch.{first}
 use Rattle.xd_meaning.specs.Bindings.{first_bindings}
 use Rattle.xd_meaning.specs.CanBeEmpty.{can_be_empty}
-use Rattle.xd_meaning.specs.Heads.{Head, element_in, text_in, heads, all_texts}
+use Rattle.xd_rules.specs.Heads.{Head, element_in, text_in}
+use Rattle.xd_meaning.specs.Heads.{heads, all_texts}
 use Rattle.xd_syntax.specs.TypeText.{type_text, depth}
 use Rattle.xd_meaning.specs.Meaning.{Done, Spent, Stuck, meaning}
 use Rattle.xd_syntax.specs.NameFaults.{fault_at, name_faults, linearity_faults}
@@ -122,7 +123,7 @@ star_of_empty = refl
 
 -- Heads.
 
-abbrev the_head : List ℕ → Tree → Tree → Head
+abbrev the_head : List ℕ → Tree → Tree → Head Tree
 the_head l T R = record { kind = element_in (one l); content = T; rest = R }
 
 sequence_heads : heads no_names (Seq (Star (tag a Empty)) (tag b Text))

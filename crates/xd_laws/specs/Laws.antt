@@ -12,12 +12,13 @@ use Rattle.xd_syntax.specs.NameFaults.{linearity_faults}
 use Rattle.xd_meaning.specs.Bindings.{variables_of, first_bindings}
 use Rattle.xd_syntax.specs.Proper.{IsProperProgram}
 use Rattle.xd_meaning.specs.CanBeEmpty.{can_be_empty}
-use Rattle.xd_meaning.specs.Heads.{Head, heads, heads_within}
+use Rattle.xd_rules.specs.Heads.{Head}
+use Rattle.xd_meaning.specs.Heads.{heads, heads_within}
 use Rattle.xd_meaning.specs.HeadBegins.{Begins}
 use Rattle.xd_syntax.specs.Program.{ProgramTree, names_of}
 use Rattle.xd_syntax.specs.RecursionFaults.{IsSound}
 use Rattle.xd_meaning.specs.Meaning.{Done, Environment, looked_up, meaning}
-use Rattle.xd_meaning.specs.Consistent.{Goal, IsConsistent, Claim}
+use Rattle.xd_meaning.specs.Consistent.{Goal, IsConsistent, ClaimHolds}
 use Rattle.xd_meaning.specs.Breach.{Reason, Lined, goals_of, IsFirstBreach}
 
 -- the binders dropped
@@ -52,7 +53,7 @@ FitsIsWithinSome = (E : Definitions) (T : Tree) (d : Document) → Fits E T d �
 -- a document with an item fits a type exactly where it begins as one of the type's heads
 abbrev pub HeadsDecide : Type 0
 HeadsDecide = (P : ProgramTree) → IsSound P → (T : Tree) (d : Document) → has_item d ≡ true →
-    Fits (names_of P) T d ↔ ((h : Head) × Among h (heads (names_of P) T) × Begins (names_of P) h d)
+    Fits (names_of P) T d ↔ ((h : Head Tree) × Among h (heads (names_of P) T) × Begins (names_of P) h d)
 
 -- the empty document fits a type exactly where the type can be empty
 abbrev pub EmptyDecides : Type 0
@@ -69,7 +70,7 @@ FuelIsLeft = (P : ProgramTree) (n : ℕ) (d v : Document) (m : ℕ) → meaning 
 
 -- in a consistent proof, over the definitions of a sound program, every goal's claim holds
 abbrev pub ConsistentProofsHold : Type 0
-ConsistentProofsHold = (P : ProgramTree) → IsSound P → (goals : List Goal) → IsConsistent (names_of P) goals → AllByRecursion (Claim (names_of P)) goals
+ConsistentProofsHold = (P : ProgramTree) → IsSound P → (goals : List Goal) → IsConsistent (names_of P) goals → AllByRecursion (ClaimHolds (names_of P)) goals
 
 -- a proof is consistent, or it has a first breach
 abbrev pub BreachesAreFound : Type 0

@@ -1,9 +1,13 @@
 -- The first line of a proof at which a rule is broken, and which rule. (The order is this project's
 -- own.)
 use Rattle.std.specs.Prelude.{◌≡◌, ℕ, ◌+◌, List, [], ◌∷◌, map, length, Option, Some, None}
-use Rattle.xd_syntax.specs.Tree.{Definitions}
-use Rattle.xd_meaning.specs.Heads.{Head, heads}
-use Rattle.xd_meaning.specs.Consistent.{Atom, this_label, other_label, this_text, other_text, ChoiceTree, settles_content, settles_rest, split_on, Case, Goal, HeadAtom, head_atom, wanted, numbered, right_heads, matching, Sides, no_sides, on_content, on_rest, LeafRule, SplitRule, LabelTree, CaseRule, EmptyRule, KeepsRules}
+use Rattle.xd_syntax.specs.Tree.{Tree, Definitions}
+use Rattle.xd_rules.specs.declared.atom.Atom.{Atom}
+use Rattle.xd_rules.specs.declared.atom.Atom.TheVariants.{Label, OtherLabel, Text, OtherText}
+use Rattle.xd_rules.specs.Heads.{Head}
+use Rattle.xd_rules.specs.Rules.{Claim, ChoiceTree, settles_content, settles_rest, split_on, Case, HeadAtom, head_atom, wanted, numbered, matching, Sides, no_sides, on_content, on_rest, LeafRule, SplitRule, LabelTree, CaseRule}
+use Rattle.xd_meaning.specs.Heads.{heads}
+use Rattle.xd_meaning.specs.Consistent.{Goal, claims, right_heads, EmptyRule, KeepsRules}
 
 pub data Reason : Type 0 where
   bad_form : Reason
@@ -19,26 +23,26 @@ pub record Lined : Type 0 where
   pub goal : Goal
 
 -- In the tree of a label, from left to right: a split is looked at before what stands below it.
-pub data TreeBreach (gs : List Goal) (a : Atom) (left : Head) (hs : List Head) : Sides → ChoiceTree → Reason → Type 0 where
-  content_leaf : {s : Sides} {n : ℕ} → (LeafRule (λ h. h.content) gs left hs s.content n → ⊥) → TreeBreach gs a left hs s (settles_content n) bad_leaf
-  rest_leaf : {s : Sides} {n : ℕ} → (LeafRule (λ h. h.rest) gs left hs s.rest n → ⊥) → TreeBreach gs a left hs s (settles_rest n) bad_leaf
-  at_split : {s : Sides} {n : ℕ} {t u : ChoiceTree} → (SplitRule a hs s n → ⊥) → TreeBreach gs a left hs s (split_on n t u) bad_split
-  in_content : {s : Sides} {n : ℕ} {t u : ChoiceTree} {r : Reason} → SplitRule a hs s n → TreeBreach gs a left hs (on_content n s) t r
-      → TreeBreach gs a left hs s (split_on n t u) r
-  in_rest : {s : Sides} {n : ℕ} {t u : ChoiceTree} {r : Reason} → SplitRule a hs s n → LabelTree gs a left hs (on_content n s) t
-      → TreeBreach gs a left hs (on_rest n s) u r → TreeBreach gs a left hs s (split_on n t u) r
+pub data TreeBreach (claim_at : ℕ → Option (Claim Tree)) (a : Atom) (left : Head Tree) (hs : List (Head Tree)) : Sides → ChoiceTree → Reason → Type 0 where
+  content_leaf : {s : Sides} {n : ℕ} → (LeafRule (λ h. h.content) claim_at left hs s.content n → ⊥) → TreeBreach claim_at a left hs s (settles_content n) bad_leaf
+  rest_leaf : {s : Sides} {n : ℕ} → (LeafRule (λ h. h.rest) claim_at left hs s.rest n → ⊥) → TreeBreach claim_at a left hs s (settles_rest n) bad_leaf
+  at_split : {s : Sides} {n : ℕ} {t u : ChoiceTree} → (SplitRule a hs s n → ⊥) → TreeBreach claim_at a left hs s (split_on n t u) bad_split
+  in_content : {s : Sides} {n : ℕ} {t u : ChoiceTree} {r : Reason} → SplitRule a hs s n → TreeBreach claim_at a left hs (on_content n s) t r
+      → TreeBreach claim_at a left hs s (split_on n t u) r
+  in_rest : {s : Sides} {n : ℕ} {t u : ChoiceTree} {r : Reason} → SplitRule a hs s n → LabelTree claim_at a left hs (on_content n s) t
+      → TreeBreach claim_at a left hs (on_rest n s) u r → TreeBreach claim_at a left hs s (split_on n t u) r
 
 -- In the tree of a text nothing but a leaf on the rest may stand.
-pub data TextBreach (gs : List Goal) (a : Atom) (left : Head) (hs : List Head) : ChoiceTree → Reason → Type 0 where
-  text_leaf : {n : ℕ} → (LeafRule (λ h. h.rest) gs left hs (matching a 1 hs) n → ⊥) → TextBreach gs a left hs (settles_rest n) bad_leaf
-  text_content : {n : ℕ} → TextBreach gs a left hs (settles_content n) bad_split
-  text_split : {n : ℕ} {t u : ChoiceTree} → TextBreach gs a left hs (split_on n t u) bad_split
+pub data TextBreach (claim_at : ℕ → Option (Claim Tree)) (a : Atom) (left : Head Tree) (hs : List (Head Tree)) : ChoiceTree → Reason → Type 0 where
+  text_leaf : {n : ℕ} → (LeafRule (λ h. h.rest) claim_at left hs (matching a 1 hs) n → ⊥) → TextBreach claim_at a left hs (settles_rest n) bad_leaf
+  text_content : {n : ℕ} → TextBreach claim_at a left hs (settles_content n) bad_split
+  text_split : {n : ℕ} {t u : ChoiceTree} → TextBreach claim_at a left hs (split_on n t u) bad_split
 
-abbrev pub ChoiceBreach : List Goal → Atom → Head → List Head → ChoiceTree → Reason → Type 0
-ChoiceBreach gs (this_label l) left hs t r = TreeBreach gs (this_label l) left hs no_sides t r
-ChoiceBreach gs other_label left hs t r = TreeBreach gs other_label left hs no_sides t r
-ChoiceBreach gs (this_text s) left hs t r = TextBreach gs (this_text s) left hs t r
-ChoiceBreach gs other_text left hs t r = TextBreach gs other_text left hs t r
+abbrev pub ChoiceBreach : (ℕ → Option (Claim Tree)) → Atom → Head Tree → List (Head Tree) → ChoiceTree → Reason → Type 0
+ChoiceBreach claim_at (Label l) left hs t r = TreeBreach claim_at (Label l) left hs no_sides t r
+ChoiceBreach claim_at OtherLabel left hs t r = TreeBreach claim_at OtherLabel left hs no_sides t r
+ChoiceBreach claim_at (Text s) left hs t r = TextBreach claim_at (Text s) left hs t r
+ChoiceBreach claim_at OtherText left hs t r = TextBreach claim_at OtherText left hs t r
 
 -- Where the cases from line n on are to be these: one too many is wrong where it stands, one too
 -- few at the line after the last case. A case of another head or atom is looked at before its
@@ -49,10 +53,10 @@ pub data CasesBreach (E : Definitions) (gs : List Goal) (g : Goal) : (n : ℕ) �
   other_case : {n : ℕ} {w : HeadAtom} {ws : List HeadAtom} {c : Case} {cs : List Case} → (head_atom c ≡ w → ⊥)
       → CasesBreach E gs g n (w ∷ ws) (c ∷ cs) n bad_case
   in_tree : {n : ℕ} {w : HeadAtom} {ws : List HeadAtom} {c : Case} {cs : List Case} {r : Reason} → head_atom c ≡ w
-      → (left : Head) → numbered (heads E g.left) c.head ≡ Some left → ChoiceBreach gs c.atom left (right_heads E g) c.choice r
+      → (left : Head Tree) → numbered (heads E g.left) c.head ≡ Some left → ChoiceBreach (claims gs) c.atom left (right_heads E g) c.choice r
       → CasesBreach E gs g n (w ∷ ws) (c ∷ cs) n r
   later_case : {n m : ℕ} {w : HeadAtom} {ws : List HeadAtom} {c : Case} {cs : List Case} {r : Reason} → head_atom c ≡ w
-      → CaseRule E gs g c → CasesBreach E gs g (n + 1) ws cs m r → CasesBreach E gs g n (w ∷ ws) (c ∷ cs) m r
+      → CaseRule (claims gs) (heads E g.left) (right_heads E g) c → CasesBreach E gs g (n + 1) ws cs m r → CasesBreach E gs g n (w ∷ ws) (c ∷ cs) m r
 
 abbrev pub empty_lines : Option ℕ → ℕ
 empty_lines None = 0
@@ -66,7 +70,7 @@ line_behind l = l.line + 2 + length (l.goal).rights
 pub data GoalBreach (E : Definitions) (gs : List Goal) (l : Lined) : (line : ℕ) → Reason → Type 0 where
   on_empty : (EmptyRule E l.goal (l.goal).empty_right → ⊥) → GoalBreach E gs l (line_behind l) bad_empty
   in_cases : {m : ℕ} {r : Reason} → EmptyRule E l.goal (l.goal).empty_right
-      → CasesBreach E gs l.goal (line_behind l + empty_lines (l.goal).empty_right) (wanted E l.goal) (l.goal).cases m r → GoalBreach E gs l m r
+      → CasesBreach E gs l.goal (line_behind l + empty_lines (l.goal).empty_right) (wanted (heads E (l.goal).left) (right_heads E l.goal)) (l.goal).cases m r → GoalBreach E gs l m r
 
 pub data GoalsBreach (E : Definitions) (gs : List Goal) : List Lined → (line : ℕ) → Reason → Type 0 where
   this_goal : {l : Lined} {ls : List Lined} {m : ℕ} {r : Reason} → GoalBreach E gs l m r → GoalsBreach E gs (l ∷ ls) m r

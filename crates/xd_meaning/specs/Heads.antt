@@ -1,8 +1,9 @@
--- Heads of a type: how the documents that fit it begin
+-- Heads of a type: how the documents that fit it begin; the content of a text is the empty type
 -- (after Hosoya, Vouillon and Pierce, TOPLAS 2005; that the list has this order is this project's
 -- own).
 use Rattle.std.specs.Prelude.{ℕ, zero, suc, Bool, true, cond, List, [], ◌∷◌, ◌++◌, map, length, Option, Some, None}
-use Rattle.xd_doc.specs.Classes.{LabelClass, TextClass}
+use Rattle.xd_doc.specs.Classes.{TextClass}
+use Rattle.xd_rules.specs.Heads.{Head, element_in, text_in}
 use Rattle.xd_syntax.specs.Tree.{Tree, Empty, Text, Words, Name, Elem, Seq, Alt, Star, Plus, Opt, Val, Definitions, body, seq_of}
 use Rattle.xd_meaning.specs.CanBeEmpty.{can_be_empty}
 
@@ -19,23 +20,11 @@ followed_by R U = seq_of (pieces R ++ pieces U)
 abbrev pub all_texts : TextClass
 all_texts = record { names = []; except = true }
 
--- an element whose label is in a class, or a text that is in a class
-pub data HeadKind : Type 0 where
-  element_in : LabelClass → HeadKind
-  text_in : TextClass → HeadKind
-
--- what the first item is, what stands in it, and what follows it; the content of a text is the
--- empty type
-pub record Head : Type 0 where
-  pub kind : HeadKind
-  pub content : Tree
-  pub rest : Tree
-
-abbrev pub with_behind : Tree → Head → Head
+abbrev pub with_behind : Tree → Head Tree → Head Tree
 with_behind R h = record h { rest = followed_by h.rest R }
 
 -- the heads of a type, where Z says which types can be empty, and N gives the heads of names
-abbrev pub heads_by : (Tree → Bool) → (List ℕ → List Head) → Tree → List Head
+abbrev pub heads_by : (Tree → Bool) → (List ℕ → List (Head Tree)) → Tree → List (Head Tree)
 heads_by Z N Empty = []
 heads_by Z N Text = record { kind = text_in all_texts; content = Empty; rest = Empty } ∷ []
 heads_by Z N (Words w) = record { kind = text_in w; content = Empty; rest = Empty } ∷ []
@@ -48,18 +37,18 @@ heads_by Z N (Plus T) = map (with_behind (Star T)) (heads_by Z N T)
 heads_by Z N (Opt T) = heads_by Z N T
 heads_by Z N (Val x T) = heads_by Z N T
 
-abbrev pub heads_of_definition : (Tree → List Head) → Option Tree → List Head
+abbrev pub heads_of_definition : (Tree → List (Head Tree)) → Option Tree → List (Head Tree)
 heads_of_definition F None = []
 heads_of_definition F (Some T) = F T
 
-abbrev pub heads_of_name : (Tree → Bool) → Definitions → ℕ → List ℕ → List Head
+abbrev pub heads_of_name : (Tree → Bool) → Definitions → ℕ → List ℕ → List (Head Tree)
 heads_of_name Z E zero x = []
 heads_of_name Z E (suc n) x = heads_of_definition (heads_by Z (heads_of_name Z E n)) (body E x)
 
 -- within so many unfoldings
-abbrev pub heads_within : Definitions → ℕ → Tree → List Head
+abbrev pub heads_within : Definitions → ℕ → Tree → List (Head Tree)
 heads_within E n T = heads_by (can_be_empty E) (heads_of_name (can_be_empty E) E n) T
 
 -- within as many unfoldings as there are definitions
-unfoldable pub heads : Definitions → Tree → List Head
+unfoldable pub heads : Definitions → Tree → List (Head Tree)
 heads E T = heads_within E (length E) T

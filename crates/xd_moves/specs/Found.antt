@@ -4,7 +4,8 @@ use Rattle.std.specs.List.{AllByRecursion}
 use Rattle.xd_syntax.specs.Tree.{Tree, Words, Elem, Star, Plus, Definitions, body}
 use Rattle.xd_syntax.specs.Table.{Row, Form, empty_form, text_form, words_form, name_form, elem_form, seq_form, alt_form, star_form, plus_form, opt_form, val_form, tree_at}
 use Rattle.xd_sound.specs.TypeNames.{meanings}
-use Rattle.xd_meaning.specs.Heads.{element_in, text_in, pieces, all_texts}
+use Rattle.xd_rules.specs.Heads.{element_in, text_in}
+use Rattle.xd_meaning.specs.Heads.{pieces, all_texts}
 use Rattle.xd_meaning.specs.CanBeEmpty.{can_be_empty}
 use Rattle.xd_syntax.specs.declared.types.TypeDef.{TypeDef}
 use Rattle.xd_continuations.specs.Continuation.{Move, moves}

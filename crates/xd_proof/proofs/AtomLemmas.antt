@@ -5,7 +5,8 @@ use Rattle.std.specs.List.{list_all}
 use Rattle.xd_doc.specs.Word.{is_word, is_word_start, is_word_part, are_word_parts}
 use Rattle.xd_doc.specs.Document.{escaped_all}
 use Rattle.xd_syntax.specs.TypeText.{quoted}
-use Rattle.xd_meaning.specs.Consistent.{Atom, this_label, other_label, this_text, other_text}
+use Rattle.xd_rules.specs.declared.atom.Atom.{Atom}
+use Rattle.xd_rules.specs.declared.atom.Atom.TheVariants.{Label, OtherLabel, Text, OtherText}
 use Rattle.xd_proof.specs.Lines.{space, IsFreeOf}
 use Rattle.xd_proof.specs.Parts.{IsAtom, atom_word}
 use Rattle.xd_proof.proofs.LineLemmas.{same_front, no_mark}
@@ -28,7 +29,7 @@ pub no_space_there : (bytes : List ℕ) → IsFreeOf space bytes → (a : Atom) 
 no_space_there bytes f a r i e = no_mark space (atom_word a) r bytes f (sym e)
 
 pub no_plain_there : (bytes word rest : List ℕ) → ((rest : List ℕ) → bytes ≡ 34 ∷ rest → ⊥) → bytes ≡ word ++ space ∷ rest → IsFreeOf space word → ((a : Atom) → IsAtom a → is_plain a → word ≡ atom_word a → ⊥) → (a : Atom) (r : List ℕ) → IsAtom a → bytes ≡ atom_word a ++ space ∷ r → ⊥
-no_plain_there bytes word rest quote e f never (this_text s) r i g = quote _ g
-no_plain_there bytes word rest quote e f never (this_label l) r i g = never (this_label l) i tt (same_front space word l rest r f (plain_free (this_label l) i refl) (sym e ∙ g)).0
-no_plain_there bytes word rest quote e f never other_label r i g = never other_label i tt (same_front space word _ rest r f (plain_free other_label i refl) (sym e ∙ g)).0
-no_plain_there bytes word rest quote e f never other_text r i g = never other_text i tt (same_front space word _ rest r f (plain_free other_text i refl) (sym e ∙ g)).0
+no_plain_there bytes word rest quote e f never (Text s) r i g = quote _ g
+no_plain_there bytes word rest quote e f never (Label l) r i g = never (Label l) i tt (same_front space word l rest r f (plain_free (Label l) i refl) (sym e ∙ g)).0
+no_plain_there bytes word rest quote e f never OtherLabel r i g = never OtherLabel i tt (same_front space word _ rest r f (plain_free OtherLabel i refl) (sym e ∙ g)).0
+no_plain_there bytes word rest quote e f never OtherText r i g = never OtherText i tt (same_front space word _ rest r f (plain_free OtherText i refl) (sym e ∙ g)).0

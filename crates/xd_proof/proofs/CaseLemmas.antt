@@ -3,7 +3,8 @@ use Rattle.std.proofs.Common.{◌≡◌, ℕ, arith, List, [], ◌∷◌, ◌++�
 use Rattle.std.specs.Prelude.{codes, MatchOption, IfOk}
 use Rattle.std.specs.List.{AllByRecursion}
 use Rattle.std.specs.Fmt.{decimal}
-use Rattle.xd_meaning.specs.Consistent.{Atom, ChoiceTree, Case}
+use Rattle.xd_rules.specs.declared.atom.Atom.{Atom}
+use Rattle.xd_rules.specs.Rules.{ChoiceTree, Case}
 use Rattle.xd_proof.specs.Lines.{space, spaced, IsFreeOf, IsNumber, SpellsNumber}
 use Rattle.xd_proof.specs.LineWords.{AreWords}
 use Rattle.xd_proof.specs.Parts.{IsAtom, atom_word, tree_words, HasNumbers, SpellsCase}
@@ -13,7 +14,7 @@ use Rattle.xd_proof.proofs.Unique.{tree_free, tree_some, decimal_free, case_line
 use Rattle.xd_proof.specs.declared.steps.Step.{Step}
 use Rattle.xd_proof.specs.declared.cases.ReadCase.{ReadCase}
 use Rattle.xd_proof.specs.Steps.{steps_of, SpellsSteps}
-use Rattle.xd_proof.specs.Cases.{IsCase, SpellsChoice, atom_of}
+use Rattle.xd_proof.specs.Cases.{IsCase, SpellsChoice}
 
 pub option_made : {X A B : Type 0} {P Q : X → Type 0} → (o : Option X) → (A → B) → ((x : X) → P x → Q x) → MatchOption o A P → MatchOption o B Q
 option_made None f g h = f h
@@ -40,7 +41,7 @@ tree_from bytes words steps a [] m h e f = absurd (omega (arith, m))
 tree_from bytes words steps a (t ∷ []) m h e f = record { tree = t; numbers = h.0; spelled = a.whole ∙ ap spaced (sym e ∙ append-nil (tree_words t)); taken = sym f ∙ append-nil (steps_of t) }
 tree_from bytes words steps a (t ∷ (u ∷ us)) m h e f = absurd (omega (arith, m))
 
-pub tree_is : (bytes : List ℕ) (words : List (List ℕ)) (head : ℕ) (atom : Atom) (m : ReadCase) → AreWords bytes words → SpellsSteps 1 words (m.steps).items → m.head ≡ head → atom_of m.atom ≡ atom →
+pub tree_is : (bytes : List ℕ) (words : List (List ℕ)) (head : ℕ) (atom : Atom) (m : ReadCase) → AreWords bytes words → SpellsSteps 1 words (m.steps).items → m.head ≡ head → m.atom ≡ atom →
     (t : ChoiceTree) × HasNumbers t × (bytes ≡ spaced (tree_words t)) × IsCase m (record { head = head; atom = atom; choice = t })
 tree_is bytes words head atom m a s e f =
     let t = tree_from bytes words (m.steps).items a s.trees s.many s.numbers s.spelled s.taken in

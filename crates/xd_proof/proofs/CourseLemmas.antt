@@ -5,7 +5,7 @@ use Rattle.std.specs.List.{AllByRecursion}
 use Rattle.std.proofs.lemmas.Bool.{eq-eqb, eqb-true, ltb-true, lt-ltb, and_from}
 use Rattle.xd_doc.proofs.Bools.{and_parts}
 use Rattle.xd_doc.proofs.Lists.{map_append}
-use Rattle.xd_meaning.specs.Consistent.{Case}
+use Rattle.xd_rules.specs.Rules.{Case}
 use Rattle.xd_proof.specs.Parts.{Part, goal_count, goal_part, left_part, right_part, empty_part, case_part, end_part}
 use Rattle.xd_proof.specs.Form.{Block, empty_parts, block_parts, blocks_from, goal_list}
 use Rattle.xd_proof.specs.Course.{Course, at_count, at_first_goal, at_left, in_rights, in_cases, at_end, only_if, plain_block, with_empty, with_case, after_goal, next, and_on, along}

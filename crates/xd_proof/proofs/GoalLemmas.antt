@@ -7,8 +7,8 @@ use Rattle.xd_syntax.specs.SoundTables.{IsTypeAt}
 use Rattle.xd_syntax.specs.Types.{BelongsTo, tree}
 use Rattle.xd_syntax.specs.declared.types.TypeId.{TypeId}
 use Rattle.xd_meaning.specs.Breach.{Lined}
-use Rattle.xd_meaning.specs.Consistent.{Case}
-use Rattle.xd_proof.specs.Cases.{IsCase, IsTree, atom_of}
+use Rattle.xd_rules.specs.Rules.{Case}
+use Rattle.xd_proof.specs.Cases.{IsCase, IsTree}
 use Rattle.xd_proof.specs.declared.cases.ReadCase.{ReadCase}
 use Rattle.xd_proof.specs.Goals.{AreGoalsAt, GoalBelongs, GoalsBelong, IsLinedAt}
 use Rattle.xd_proof.specs.Kept.{AreTrees}
@@ -21,7 +21,7 @@ cases_are [] h = ([], tt)
 cases_are (m ∷ ms) h =
     let t = h.0 in
     let more = cases_are ms h.1 in
-    (record { head = m.head; atom = atom_of m.atom; choice = t.0 } ∷ more.0, (record { head = refl; atom = refl; steps = t.1 }, more.1))
+    (record { head = m.head; atom = m.atom; choice = t.0 } ∷ more.0, (record { head = refl; atom = refl; steps = t.1 }, more.1))
 
 types_are : (types : List Row) (ids : List TypeId) → AllByRecursion (BelongsTo types) ids → (Ts : List Tree) × AllZip (λ id T. IsTypeAt types T id) ids Ts
 types_are types [] h = ([], tt)

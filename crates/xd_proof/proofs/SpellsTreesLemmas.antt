@@ -3,7 +3,7 @@ use Rattle.std.proofs.Common.{◌≡◌, ◌⊎◌, ℕ, suc, arith, List, [], �
 use Rattle.std.specs.Prelude.{codes}
 use Rattle.std.specs.List.{AllByRecursion}
 use Rattle.std.specs.Fmt.{decimal}
-use Rattle.xd_meaning.specs.Consistent.{ChoiceTree, settles_content, settles_rest, split_on}
+use Rattle.xd_rules.specs.Rules.{ChoiceTree, settles_content, settles_rest, split_on}
 use Rattle.xd_proof.specs.Lines.{IsNumber}
 use Rattle.xd_proof.specs.Parts.{tree_words, HasNumbers}
 use Rattle.xd_proof.specs.Forest.{SpellsTrees, HasNumber, TreesAreCounted}

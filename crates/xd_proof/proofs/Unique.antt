@@ -12,7 +12,9 @@ use Rattle.xd_doc.specs.Word.{is_word, is_word_start, is_word_part, are_word_par
 use Rattle.xd_doc.proofs.Bools.{and_parts}
 use Rattle.xd_doc.proofs.Lists.{all_append, same_fronts}
 use Rattle.xd_syntax.specs.Tree.{Tree}
-use Rattle.xd_meaning.specs.Consistent.{Atom, this_label, other_label, this_text, other_text, ChoiceTree, settles_content, settles_rest, split_on, Case}
+use Rattle.xd_rules.specs.declared.atom.Atom.{Atom}
+use Rattle.xd_rules.specs.declared.atom.Atom.TheVariants.{Label, OtherLabel, Text, OtherText}
+use Rattle.xd_rules.specs.Rules.{ChoiceTree, settles_content, settles_rest, split_on, Case}
 use Rattle.xd_doc.specs.Document.{escaped_all}
 use Rattle.xd_lex.specs.declared.LexFault.{LexFault}
 use Rattle.xd_lex.specs.Scan.{quoted as scanned}
@@ -84,7 +86,7 @@ ok_one : (n m : ℕ) → (let x : Result ℕ LexFault = Ok n in x) ≡ Ok m → 
 ok_one n m e = cc
 
 abbrev pub is_text_atom : Atom → Bool
-is_text_atom (this_text s) = true
+is_text_atom (Text s) = true
 is_text_atom _ = false
 
 no_word : (l w : List ℕ) → l ≡ w → is_word l ≡ true → is_word w ≡ false → ⊥
@@ -106,29 +108,29 @@ word_no_quote [] r h e = cc
 word_no_quote (c ∷ cs) r h e = let k = (and_parts _ _ h).0 in let z : false ≡ true = subst (λ x. is_word_start x ≡ true) e k in cc
 
 pub plain_no_quote : (a : Atom) (r s q : List ℕ) → IsAtom a → (is_text_atom a ≡ false) → atom_word a ++ space ∷ r ≡ quoted s ++ space ∷ q → ⊥
-plain_no_quote (this_label l) r s q h p e = word_no_quote l (space ∷ r) h (ap (λ l. get_or l 0 0) e)
-plain_no_quote other_label r s q h p e = let z : 126 ≡ 34 = ap (λ l. get_or l 0 0) e in omega (arith, z)
-plain_no_quote (this_text t) r s q h p e = cc
-plain_no_quote other_text r s q h p e = let z : 36 ≡ 34 = ap (λ l. get_or l 0 0) e in omega (arith, z)
+plain_no_quote (Label l) r s q h p e = word_no_quote l (space ∷ r) h (ap (λ l. get_or l 0 0) e)
+plain_no_quote OtherLabel r s q h p e = let z : 126 ≡ 34 = ap (λ l. get_or l 0 0) e in omega (arith, z)
+plain_no_quote (Text t) r s q h p e = cc
+plain_no_quote OtherText r s q h p e = let z : 36 ≡ 34 = ap (λ l. get_or l 0 0) e in omega (arith, z)
 
 pub plain_free : (a : Atom) → IsAtom a → is_text_atom a ≡ false → IsFreeOf space (atom_word a)
-plain_free (this_label l) h p = word_free l h
-plain_free other_label h p = ((λ e. omega (arith, e)), tt)
-plain_free (this_text s) h p = absurd (cc)
-plain_free other_text h p = ((λ e. omega (arith, e)), tt)
+plain_free (Label l) h p = word_free l h
+plain_free OtherLabel h p = ((λ e. omega (arith, e)), tt)
+plain_free (Text s) h p = absurd (cc)
+plain_free OtherText h p = ((λ e. omega (arith, e)), tt)
 
 plain_one : (a b : Atom) → IsAtom a → IsAtom b → is_text_atom a ≡ false → is_text_atom b ≡ false → atom_word a ≡ atom_word b → a ≡ b
-plain_one (this_label l) (this_label m) h k p q e = ap this_label e
-plain_one (this_label l) other_label h k p q e = absurd (no_word l (codes "~") e h refl)
-plain_one (this_label l) other_text h k p q e = absurd (no_word l (codes "$") e h refl)
-plain_one other_label (this_label m) h k p q e = absurd (no_word m (codes "~") (sym e) k refl)
-plain_one other_label other_label h k p q e = refl
-plain_one other_label other_text h k p q e = let z : 126 ≡ 36 = ap (λ l. get_or l 0 0) e in absurd (omega (arith, z))
-plain_one other_text (this_label m) h k p q e = absurd (no_word m (codes "$") (sym e) k refl)
-plain_one other_text other_label h k p q e = let z : 36 ≡ 126 = ap (λ l. get_or l 0 0) e in absurd (omega (arith, z))
-plain_one other_text other_text h k p q e = refl
-plain_one (this_text s) b h k p q e = absurd (cc)
-plain_one a (this_text s) h k p q e = absurd (cc)
+plain_one (Label l) (Label m) h k p q e = ap Label e
+plain_one (Label l) OtherLabel h k p q e = absurd (no_word l (codes "~") e h refl)
+plain_one (Label l) OtherText h k p q e = absurd (no_word l (codes "$") e h refl)
+plain_one OtherLabel (Label m) h k p q e = absurd (no_word m (codes "~") (sym e) k refl)
+plain_one OtherLabel OtherLabel h k p q e = refl
+plain_one OtherLabel OtherText h k p q e = let z : 126 ≡ 36 = ap (λ l. get_or l 0 0) e in absurd (omega (arith, z))
+plain_one OtherText (Label m) h k p q e = absurd (no_word m (codes "$") (sym e) k refl)
+plain_one OtherText OtherLabel h k p q e = let z : 36 ≡ 126 = ap (λ l. get_or l 0 0) e in absurd (omega (arith, z))
+plain_one OtherText OtherText h k p q e = refl
+plain_one (Text s) b h k p q e = absurd (cc)
+plain_one a (Text s) h k p q e = absurd (cc)
 
 plain_apart : (a b : Atom) (r q : List ℕ) → IsAtom a → IsAtom b → is_text_atom a ≡ false → is_text_atom b ≡ false → atom_word a ++ space ∷ r ≡ atom_word b ++ space ∷ q → (a ≡ b) × (r ≡ q)
 plain_apart a b r q h k p s e =
@@ -137,22 +139,22 @@ plain_apart a b r q h k p s e =
 
 -- an atom, and what stands after the space after it
 pub atom_one : (a b : Atom) (r q : List ℕ) → IsAtom a → IsAtom b → atom_word a ++ space ∷ r ≡ atom_word b ++ space ∷ q → (a ≡ b) × (r ≡ q)
-atom_one (this_text s) (this_text t) r q h k e = let w = quoted_one s t (space ∷ r) (space ∷ q) e in (ap this_text w.0, ap (λ l. drop 1 l) w.1)
-atom_one (this_text s) (this_label m) r q h k e = absurd (plain_no_quote (this_label m) q s r k refl (sym e))
-atom_one (this_text s) other_label r q h k e = absurd (plain_no_quote other_label q s r k refl (sym e))
-atom_one (this_text s) other_text r q h k e = absurd (plain_no_quote other_text q s r k refl (sym e))
-atom_one (this_label l) (this_text t) r q h k e = absurd (plain_no_quote (this_label l) r t q h refl e)
-atom_one other_label (this_text t) r q h k e = absurd (plain_no_quote other_label r t q h refl e)
-atom_one other_text (this_text t) r q h k e = absurd (plain_no_quote other_text r t q h refl e)
-atom_one (this_label l) (this_label m) r q h k e = plain_apart (this_label l) (this_label m) r q h k refl refl e
-atom_one (this_label l) other_label r q h k e = plain_apart (this_label l) other_label r q h k refl refl e
-atom_one (this_label l) other_text r q h k e = plain_apart (this_label l) other_text r q h k refl refl e
-atom_one other_label (this_label m) r q h k e = plain_apart other_label (this_label m) r q h k refl refl e
-atom_one other_label other_label r q h k e = plain_apart other_label other_label r q h k refl refl e
-atom_one other_label other_text r q h k e = plain_apart other_label other_text r q h k refl refl e
-atom_one other_text (this_label m) r q h k e = plain_apart other_text (this_label m) r q h k refl refl e
-atom_one other_text other_label r q h k e = plain_apart other_text other_label r q h k refl refl e
-atom_one other_text other_text r q h k e = plain_apart other_text other_text r q h k refl refl e
+atom_one (Text s) (Text t) r q h k e = let w = quoted_one s t (space ∷ r) (space ∷ q) e in (ap Text w.0, ap (λ l. drop 1 l) w.1)
+atom_one (Text s) (Label m) r q h k e = absurd (plain_no_quote (Label m) q s r k refl (sym e))
+atom_one (Text s) OtherLabel r q h k e = absurd (plain_no_quote OtherLabel q s r k refl (sym e))
+atom_one (Text s) OtherText r q h k e = absurd (plain_no_quote OtherText q s r k refl (sym e))
+atom_one (Label l) (Text t) r q h k e = absurd (plain_no_quote (Label l) r t q h refl e)
+atom_one OtherLabel (Text t) r q h k e = absurd (plain_no_quote OtherLabel r t q h refl e)
+atom_one OtherText (Text t) r q h k e = absurd (plain_no_quote OtherText r t q h refl e)
+atom_one (Label l) (Label m) r q h k e = plain_apart (Label l) (Label m) r q h k refl refl e
+atom_one (Label l) OtherLabel r q h k e = plain_apart (Label l) OtherLabel r q h k refl refl e
+atom_one (Label l) OtherText r q h k e = plain_apart (Label l) OtherText r q h k refl refl e
+atom_one OtherLabel (Label m) r q h k e = plain_apart OtherLabel (Label m) r q h k refl refl e
+atom_one OtherLabel OtherLabel r q h k e = plain_apart OtherLabel OtherLabel r q h k refl refl e
+atom_one OtherLabel OtherText r q h k e = plain_apart OtherLabel OtherText r q h k refl refl e
+atom_one OtherText (Label m) r q h k e = plain_apart OtherText (Label m) r q h k refl refl e
+atom_one OtherText OtherLabel r q h k e = plain_apart OtherText OtherLabel r q h k refl refl e
+atom_one OtherText OtherText r q h k e = plain_apart OtherText OtherText r q h k refl refl e
 
 -- ---- cases
 pub tree_some : (t : ChoiceTree) → 0 < length (tree_words t)

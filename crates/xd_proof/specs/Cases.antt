@@ -1,24 +1,17 @@
 -- Cases and atoms as they are read.
 use Rattle.std.specs.Prelude.{◌≡◌, ℕ, List, ◌∷◌, ◌++◌}
-use Rattle.xd_meaning.specs.Consistent.{Case, ChoiceTree, this_label, other_label, this_text, other_text}
-use Rattle.xd_meaning.specs.Consistent as proof
+use Rattle.xd_rules.specs.Rules.{Case, ChoiceTree}
+use Rattle.xd_rules.specs.declared.atom.Atom.TheVariants.{Text}
 use Rattle.xd_proof.specs.Lines.{space, spaced}
 use Rattle.xd_proof.specs.Parts.{IsAtom, atom_word, HasNumbers, tree_words}
-use Rattle.xd_proof.specs.declared.atoms.ProofAtom.{ProofAtom}
-use Rattle.xd_proof.specs.declared.atoms.ProofAtom.TheVariants as atoms
+use Rattle.xd_rules.specs.declared.atom.Atom.{Atom}
 use Rattle.xd_proof.specs.declared.cases.ReadCase.{ReadCase}
 use Rattle.xd_proof.specs.Steps.{steps_of}
-
-abbrev pub atom_of : ProofAtom → proof.Atom
-atom_of (atoms.Label l) = this_label l
-atom_of atoms.OtherLabel = other_label
-atom_of (atoms.Text s) = this_text s
-atom_of atoms.OtherText = other_text
 
 -- what was read is this case
 pub record IsCase (made : ReadCase) (c : Case) : Type 0 where
   pub head : made.head ≡ c.head
-  pub atom : atom_of made.atom ≡ c.atom
+  pub atom : made.atom ≡ c.atom
   pub steps : (made.steps).items ≡ steps_of c.choice
 
 -- its steps are those of one choice tree
@@ -32,6 +25,6 @@ pub record SpellsChoice (bytes : List ℕ) (c : Case) : Type 0 where
   pub numbers : HasNumbers c.choice
 
 -- an atom without quotes
-abbrev pub is_plain : proof.Atom → Type 0
-is_plain (this_text s) = ⊥
+abbrev pub is_plain : Atom → Type 0
+is_plain (Text s) = ⊥
 is_plain a = Unit {0}

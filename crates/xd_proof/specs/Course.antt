@@ -1,6 +1,6 @@
 -- How far the lines from the number of goals on have come, and which line may follow.
 use Rattle.std.specs.Prelude.{ℕ, ◌+◌, Bool, cond, nat_eq, nat_lt, ◌&&◌, List, [], ◌∷◌, ◌++◌, length, Option, Some, None}
-use Rattle.xd_meaning.specs.Consistent.{Case}
+use Rattle.xd_rules.specs.Rules.{Case}
 use Rattle.xd_proof.specs.Parts.{Part, goal_count, goal_part, left_part, right_part, empty_part, case_part, end_part}
 use Rattle.xd_proof.specs.Form.{Block}
 

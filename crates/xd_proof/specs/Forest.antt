@@ -2,7 +2,7 @@
 -- to come has before it.
 use Rattle.std.specs.Prelude.{◌≡◌, ◌↔◌, ◌⊎◌, ℕ, suc, codes, List, [], ◌∷◌, flat_map, length}
 use Rattle.std.specs.List.{AllByRecursion}
-use Rattle.xd_meaning.specs.Consistent.{ChoiceTree}
+use Rattle.xd_rules.specs.Rules.{ChoiceTree}
 use Rattle.xd_proof.specs.Lines.{SpellsNumber}
 use Rattle.xd_proof.specs.Parts.{tree_words, HasNumbers}
 

@@ -5,7 +5,9 @@ use Rattle.std.specs.Str.{is_utf8}
 use Rattle.xd_doc.specs.Word.{is_word}
 use Rattle.xd_syntax.specs.Tree.{Tree}
 use Rattle.xd_syntax.specs.TypeText.{quoted}
-use Rattle.xd_meaning.specs.Consistent.{Atom, this_label, other_label, this_text, other_text, ChoiceTree, settles_content, settles_rest, split_on, Case}
+use Rattle.xd_rules.specs.declared.atom.Atom.{Atom}
+use Rattle.xd_rules.specs.declared.atom.Atom.TheVariants.{Label, OtherLabel, Text, OtherText}
+use Rattle.xd_rules.specs.Rules.{ChoiceTree, settles_content, settles_rest, split_on, Case}
 use Rattle.xd_proof.specs.Lines.{spaced, space, IsNumber, SpellsNumber}
 
 -- A line of a proof text. `A` is what stands for a type in a goal: the type itself in the first
@@ -26,17 +28,16 @@ pub data Part (A : Type 0) : Type 0 where
 -- the spelling of an atom: a label is its own, and a text stands in quotes, where it may have
 -- spaces in it
 abbrev pub atom_word : Atom → List ℕ
-atom_word (this_label l) = l
-atom_word other_label = codes "~"
-atom_word (this_text s) = quoted s
-atom_word other_text = codes "$"
+atom_word (Label l) = l
+atom_word OtherLabel = codes "~"
+atom_word (Text s) = quoted s
+atom_word OtherText = codes "$"
 
 -- a label is a word, a keyword too, and a text has characters that UTF-8 can spell
 abbrev pub IsAtom : Atom → Type 0
-IsAtom (this_label l) = is_word l ≡ true
-IsAtom other_label = Unit {0}
-IsAtom (this_text s) = is_utf8 s ≡ true
-IsAtom other_text = Unit {0}
+IsAtom (Label l) = is_word l ≡ true
+IsAtom (Text s) = is_utf8 s ≡ true
+IsAtom a = Unit {0}
 
 -- the words of a choice tree, which stands before its parts
 abbrev pub tree_words : ChoiceTree → List (List ℕ)

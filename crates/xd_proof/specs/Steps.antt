@@ -1,7 +1,7 @@
 -- Choice trees as steps, each tree before its parts.
 use Rattle.std.specs.Prelude.{◌≡◌, ℕ, ◌+◌, codes, List, [], ◌∷◌, ◌++◌, flat_map, length}
 use Rattle.std.specs.List.{AllByRecursion}
-use Rattle.xd_meaning.specs.Consistent.{ChoiceTree, settles_content, settles_rest, split_on}
+use Rattle.xd_rules.specs.Rules.{ChoiceTree, settles_content, settles_rest, split_on}
 use Rattle.xd_proof.specs.Lines.{SpellsNumber}
 use Rattle.xd_proof.specs.Parts.{tree_words, HasNumbers}
 use Rattle.xd_proof.specs.declared.steps.Step.{Step}

@@ -1,24 +1,25 @@
 //! Cases.
 
 ghost use Rattle.std.specs.Prelude.{◌≡◌, IfOk, MatchOption};
-ghost use Rattle.xd_meaning.specs.Consistent.{Case, ChoiceTree};
+ghost use Rattle.xd_rules.specs.Rules.{Case, ChoiceTree};
 ghost use Rattle.xd_proof.specs.Parts.{SpellsCase, HasNumbers, tree_words};
 ghost use Rattle.xd_proof.specs.Lines.{spaced};
-ghost use Rattle.xd_proof.specs.Cases.{IsCase, SpellsChoice, atom_of};
+ghost use Rattle.xd_proof.specs.Cases.{IsCase, SpellsChoice};
 
-use crate::atoms::{ProofAtom, read_atom};
+use crate::atoms::read_atom;
 use crate::cutting::{before_mark, split_words};
 use crate::keywords::behind_word;
 use crate::numbers::read_number;
 use crate::steps::{Step, read_steps};
 use std::alloc::Global;
 use xd_doc::NoMemory;
+use xd_rules::Atom;
 
 /// A left head's number, one of its atoms, and the steps of the choice tree.
 #[derive(Drop)]
 pub struct ReadCase {
     pub head: u64,
-    pub atom: ProofAtom,
+    pub atom: Atom,
     pub steps: Vec<Step>,
 }
 
@@ -53,10 +54,10 @@ fn read_choice(alloc: Global, head: u64, bytes: &[u8]) -> Result<Option<ReadCase
 fn read_tree(
     alloc: Global,
     head: u64,
-    atom: ProofAtom,
+    atom: Atom,
     bytes: &[u8],
 ) -> Result<Option<ReadCase>, NoMemory>
-    ensures { IfOk result (λ made. MatchOption made ((t : ChoiceTree) → HasNumbers t → bytes.now ≡ spaced (tree_words t) → ⊥) (λ m. (t : ChoiceTree) × HasNumbers t × (bytes.now ≡ spaced (tree_words t)) × IsCase m (record { head = head; atom = atom_of atom; choice = t }))) }
+    ensures { IfOk result (λ made. MatchOption made ((t : ChoiceTree) → HasNumbers t → bytes.now ≡ spaced (tree_words t) → ⊥) (λ m. (t : ChoiceTree) × HasNumbers t × (bytes.now ≡ spaced (tree_words t)) × IsCase m (record { head = head; atom = atom; choice = t }))) }
 {
     let words = split_words(alloc, bytes)?;
     match read_steps(alloc, &words)? {

@@ -12,7 +12,7 @@ use Rattle.xd_syntax.specs.Program.{ProgramTree, names_of}
 use Rattle.xd_syntax.specs.RecursionFaults.{IsSound}
 use Rattle.xd_syntax.specs.declared.types.TypeId.{TypeId}
 use Rattle.xd_meaning.specs.Breach.{Lined, goals_of}
-use Rattle.xd_meaning.specs.Consistent.{Claim, Goal, IsConsistent}
+use Rattle.xd_meaning.specs.Consistent.{ClaimHolds, Goal, IsConsistent}
 use Rattle.xd_laws.proofs.FirstWrong.{first_wrong}
 use Rattle.xd_laws.proofs.BreachLaw.{first_is, none_is, rules_are_tested}
 use Rattle.xd_laws.proofs.TheLaws.{consistent_proofs_hold_in, empty_decides}
@@ -101,7 +101,7 @@ pub accepted_is : (E : Definitions) (ls : List Lined) (v : ProofVerdict) → IsV
 accepted_is E ls Accepted i = (λ e. i, λ c. refl)
 accepted_is E ls (Refused n r) i = (λ e. absurd (cc), λ c. absurd ((rules_are_tested E ls).1 c n (reason_of r) i))
 
-pub claims_hold : (P : ProgramTree) → IsSound P → (ls : List Lined) (v : ProofVerdict) → IsVerdict (names_of P) ls v → v ≡ Accepted → AllByRecursion (Claim (names_of P)) (goals_of ls)
+pub claims_hold : (P : ProgramTree) → IsSound P → (ls : List Lined) (v : ProofVerdict) → IsVerdict (names_of P) ls v → v ≡ Accepted → AllByRecursion (ClaimHolds (names_of P)) (goals_of ls)
 claims_hold P s ls v i e = consistent_proofs_hold_in P s (goals_of ls) ((accepted_is (names_of P) ls v i).0 e)
 
 pub says_verdict : (p q : ProgramTable) (E : Definitions) (F : List ProofGoal) (v : ProofVerdict) → KeepsRows p.types q.types → names_of (program_tree q) ≡ E →

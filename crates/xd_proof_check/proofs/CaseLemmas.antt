@@ -6,25 +6,26 @@ use Rattle.std.proofs.lemmas.Bool.{eqb-true}
 use Rattle.std.proofs.lemmas.List.{drop_all}
 use Rattle.std.proofs.Math.Seq.{drop-cons}
 use Rattle.xd_doc.proofs.Lists.{all_at, zip_long, length-mapped}
-use Rattle.xd_syntax.specs.Tree.{Definitions}
+use Rattle.xd_syntax.specs.Tree.{Tree, Definitions}
 use Rattle.xd_syntax.specs.Table.{Row}
+use Rattle.xd_rules.specs.Heads as inclusion
 use Rattle.xd_meaning.specs.Heads as laws
-use Rattle.xd_meaning.specs.Consistent.{Atom, Case, ChoiceTree, Goal, HeadAtom, atoms_from, atoms_of, named, in_byte_order, labels_of, texts_of, right_heads, numbered}
-use Rattle.xd_meaning.specs.Consistent as proof
+use Rattle.xd_rules.specs.declared.atom.Atom.{Atom}
+use Rattle.xd_rules.specs.Rules.{Case, ChoiceTree, HeadAtom, atoms_from, numbered}
+use Rattle.xd_meaning.specs.Consistent.{Goal, right_heads}
+use Rattle.xd_rules.specs.Heads.{Head, HeadKind, atoms_of, in_byte_order, labels_of, named_in, texts_of}
 use Rattle.xd_meaning.specs.Breach.{bad_case}
 use Rattle.xd_laws.proofs.FirstWrong.{Refusal, at_line, or_next, reason_unless, same_atom, same_head_atom, wrong_case, wrong_cases, wrong_tree}
 use Rattle.xd_moves.specs.Cells.{Cell}
 use Rattle.xd_heads.specs.HeadList.{kind_at}
 use Rattle.xd_heads.specs.Numbered.{IsNumberIn, IsHeadIn}
 use Rattle.xd_heads.specs.declared.lister.NumberedHead.{NumberedHead}
-use Rattle.xd_proof.specs.Cases.{IsCase, atom_of}
+use Rattle.xd_proof.specs.Cases.{IsCase, IsTree}
 use Rattle.xd_proof.specs.Steps.{steps_of}
 use Rattle.xd_proof.specs.declared.steps.Step.{Step}
-use Rattle.xd_proof.specs.declared.atoms.ProofAtom as read
 use Rattle.xd_proof.specs.declared.cases.ReadCase.{ReadCase}
 use Rattle.xd_proof_check.specs.Atoms.{AreNamed, AreNamedFor, kinds_of}
-use Rattle.xd_proof_check.specs.Names.{Names}
-use Rattle.xd_proof.specs.Cases.{IsTree}
+use Rattle.xd_rules.specs.Listed.{AreAmong}
 use Rattle.xd_proof_check.specs.CaseWalk.{CasesView, CasesFit, Meets, wrong_after}
 use Rattle.xd_proof_check.specs.Corresponds.{Corresponds}
 use Rattle.xd_proof_check.specs.Reasons.{reason_of}
@@ -36,7 +37,7 @@ use Rattle.xd_proof_check.specs.declared.verdict.Reason.{Reason}
 use Rattle.xd_proof_check.proofs.SettingLemmas.{length-kinds_of}
 use Rattle.xd_proof_check.proofs.AtomLemmas.{named_among}
 
-abbrev named_lists : List (List ℕ) → List (List ℕ) → proof.Named
+abbrev named_lists : List (List ℕ) → List (List ℕ) → inclusion.Named
 named_lists ls ts = record { labels = ls; texts = ts }
 
 zip_at : {A B : Type 0} (P : A → B → Type 0) (xs : List A) (ys : List B) → AllZip P xs ys → (i : ℕ) (d : A) → i < length xs → (y : B) × (drop i ys ≡ y ∷ drop (suc i) ys) × P (get_or xs i d) y
@@ -47,23 +48,23 @@ zip_at P (x ∷ xs) (y ∷ ys) z (suc i) d h = zip_at P xs ys z.1 i d (omega ari
 
 -- ---- a setting of a goal's case
 
-kinds_same : (types : List Row) (cells : List Cell) (made : List NumberedHead) (hs : List laws.Head) → AllZip (IsHeadIn types cells) made hs → kinds_of made ≡ map (λ (h : laws.Head). h.kind) hs
+kinds_same : (types : List Row) (cells : List Cell) (made : List NumberedHead) (hs : List (Head Tree)) → AllZip (IsHeadIn types cells) made hs → kinds_of made ≡ map (λ (h : Head Tree). h.kind) hs
 kinds_same types cells [] [] z = refl
 kinds_same types cells [] (h ∷ hs) z = absurd z
 kinds_same types cells (m ∷ ms) [] z = absurd z
 kinds_same types cells (m ∷ ms) (h ∷ hs) z =
     let i = z.0 in
-    ap (λ (k : laws.HeadKind). k ∷ kinds_of ms) i.kind ∙ ap (λ ks. h.kind ∷ ks) (kinds_same types cells ms hs z.1)
+    ap (λ (k : HeadKind). k ∷ kinds_of ms) i.kind ∙ ap (λ ks. h.kind ∷ ks) (kinds_same types cells ms hs z.1)
 
-content_zip : (types : List Row) (cells : List Cell) (made : List NumberedHead) (hs : List laws.Head) → AllZip (IsHeadIn types cells) made hs →
-    AllZip (λ number (h : laws.Head). IsNumberIn types cells number h.content) (map (λ (h : NumberedHead). h.content) made) hs
+content_zip : (types : List Row) (cells : List Cell) (made : List NumberedHead) (hs : List (Head Tree)) → AllZip (IsHeadIn types cells) made hs →
+    AllZip (λ number (h : Head Tree). IsNumberIn types cells number h.content) (map (λ (h : NumberedHead). h.content) made) hs
 content_zip types cells [] [] z = tt
 content_zip types cells [] (h ∷ hs) z = absurd z
 content_zip types cells (m ∷ ms) [] z = absurd z
 content_zip types cells (m ∷ ms) (h ∷ hs) z = (let i = z.0 in i.content, content_zip types cells ms hs z.1)
 
-rest_zip : (types : List Row) (cells : List Cell) (made : List NumberedHead) (hs : List laws.Head) → AllZip (IsHeadIn types cells) made hs →
-    AllZip (λ number (h : laws.Head). IsNumberIn types cells number h.rest) (map (λ (h : NumberedHead). h.rest) made) hs
+rest_zip : (types : List Row) (cells : List Cell) (made : List NumberedHead) (hs : List (Head Tree)) → AllZip (IsHeadIn types cells) made hs →
+    AllZip (λ number (h : Head Tree). IsNumberIn types cells number h.rest) (map (λ (h : NumberedHead). h.rest) made) hs
 rest_zip types cells [] [] z = tt
 rest_zip types cells [] (h ∷ hs) z = absurd z
 rest_zip types cells (m ∷ ms) [] z = absurd z
@@ -100,13 +101,13 @@ fits_setting v a h p f =
 
 module _ (types : List Row) (cells : List Cell) (E : Definitions) (gs : List Goal) (g : Goal) (v : CasesView) (p : Path) (f : CasesFit v p) (m : Meets types cells E gs g v) where
   -- the left head at this position, and those from it on
-  abbrev pub IsLeft : ℕ → NumberedHead → laws.Head → Type 0
+  abbrev pub IsLeft : ℕ → NumberedHead → Head Tree → Type 0
   IsLeft i made h = (drop i (laws.heads E g.left) ≡ h ∷ drop (suc i) (laws.heads E g.left)) × IsHeadIn types cells made h
 
-  pub left_head : (i : ℕ) (d : NumberedHead) → i < length v.left → (h : laws.Head) × IsLeft i (get_or v.left i d) h
+  pub left_head : (i : ℕ) (d : NumberedHead) → i < length v.left → (h : Head Tree) × IsLeft i (get_or v.left i d) h
   left_head i d l = let r = zip_at (IsHeadIn types cells) v.left (laws.heads E g.left) m.left i d l in (r.0, (r.1, r.2))
 
-  pub meets_setting : (a : Atom) (i : ℕ) (made : NumberedHead) (h : laws.Head) → IsLeft i made h → Corresponds types cells (setting_at v a made) h (right_heads E g) gs
+  pub meets_setting : (a : Atom) (i : ℕ) (made : NumberedHead) (h : Head Tree) → IsLeft i made h → Corresponds types cells (setting_at v a made) h (right_heads E g) gs
   meets_setting a i made h b =
       let n = b.1 in
       record {
@@ -114,22 +115,22 @@ module _ (types : List Row) (cells : List Cell) (E : Definitions) (gs : List Goa
         goals = m.goals;
         kinds = kinds_same types cells v.rights (right_heads E g) m.rights;
         contents =
-            subst (λ ns. AllZip (λ number (h : laws.Head). IsNumberIn types cells number h.content) ns (right_heads E g)) (sym f.contents)
+            subst (λ ns. AllZip (λ number (h : Head Tree). IsNumberIn types cells number h.content) ns (right_heads E g)) (sym f.contents)
             (content_zip types cells v.rights (right_heads E g) m.rights);
         rests =
-            subst (λ ns. AllZip (λ number (h : laws.Head). IsNumberIn types cells number h.rest) ns (right_heads E g)) (sym f.rests)
+            subst (λ ns. AllZip (λ number (h : Head Tree). IsNumberIn types cells number h.rest) ns (right_heads E g)) (sym f.rests)
             (rest_zip types cells v.rights (right_heads E g) m.rights);
         left_content = n.content;
         left_rest = n.rest;
       }
 
-  drop_numbered : (hs : List laws.Head) (i : ℕ) (h : laws.Head) → drop i hs ≡ h ∷ drop (suc i) hs → numbered hs (suc i) ≡ Some h
+  drop_numbered : (hs : List (Head Tree)) (i : ℕ) (h : Head Tree) → drop i hs ≡ h ∷ drop (suc i) hs → numbered hs (suc i) ≡ Some h
   drop_numbered [] zero h e = cc
   drop_numbered [] (suc i) h e = cc
   drop_numbered (x ∷ hs) zero h e = let q : x ≡ h = cc in ap Some q
   drop_numbered (x ∷ hs) (suc i) h e = drop_numbered hs i h e
 
-  left_numbered : (i : ℕ) (made : NumberedHead) (h : laws.Head) → IsLeft i made h → numbered (laws.heads E g.left) (i + 1) ≡ Some h
+  left_numbered : (i : ℕ) (made : NumberedHead) (h : Head Tree) → IsLeft i made h → numbered (laws.heads E g.left) (i + 1) ≡ Some h
   left_numbered i made h b = let e : i + 1 ≡ suc i = omega arith in ap (numbered (laws.heads E g.left)) e ∙ drop_numbered (laws.heads E g.left) i h b.0
 
   -- no case is left
@@ -144,12 +145,12 @@ module _ (types : List Row) (cells : List Cell) (E : Definitions) (gs : List Goa
   pub no_case_left : (at line : ℕ) → length v.cases ≤ at → wrong_cases E gs g line [] (drop at g.cases) ≡ None
   no_case_left at line h = none_left at line h
 
-  same_wanted : (made : ReadCase) (c : Case) (n : ℕ) (a : Atom) → IsCase made c → (nat_eq made.head n && same_atom (atom_of made.atom) a) ≡ same_head_atom c (n, a)
-  same_wanted made c n a i = ap (λ k. nat_eq k n && same_atom (atom_of made.atom) a) i.head ∙ ap (λ b. nat_eq c.head n && same_atom b a) i.atom
+  same_wanted : (made : ReadCase) (c : Case) (n : ℕ) (a : Atom) → IsCase made c → (nat_eq made.head n && same_atom made.atom a) ≡ same_head_atom c (n, a)
+  same_wanted made c n a i = ap (λ k. nat_eq k n && same_atom made.atom a) i.head ∙ ap (λ b. nat_eq c.head n && same_atom b a) i.atom
 
   -- a case of another head or atom
   pub case_other : (at line n : ℕ) (a : Atom) (ws : List HeadAtom) (d made : ReadCase) → at < length v.cases → made ≡ get_or v.cases at d →
-      (nat_eq made.head n && same_atom (atom_of made.atom) a) ≡ false → wrong_cases E gs g line ((n, a) ∷ ws) (drop at g.cases) ≡ Some (line, bad_case)
+      (nat_eq made.head n && same_atom made.atom a) ≡ false → wrong_cases E gs g line ((n, a) ∷ ws) (drop at g.cases) ≡ Some (line, bad_case)
   case_other at line n a ws d made h e q =
       let r = zip_at IsCase v.cases g.cases m.cases at d h in
       let c = r.0 in
@@ -167,15 +168,15 @@ module _ (types : List Row) (cells : List Cell) (E : Definitions) (gs : List Goa
   after line (Some r) rest = refl
 
   -- a case of this head and atom, whose tree was looked at
-  pub case_looked : (at line left : ℕ) (a : Atom) (ws : List HeadAtom) (d made : ReadCase) (read : NumberedHead) (h : laws.Head) (found : Option Reason) → at < length v.cases → IsLeft left read h → made ≡ get_or v.cases at d →
-      (nat_eq made.head (left + 1) && same_atom (atom_of made.atom) a) ≡ true →
-      ((c : Case) → IsCase made c → option_map reason_of found ≡ wrong_tree gs (atom_of made.atom) h (right_heads E g) c.choice) →
+  pub case_looked : (at line left : ℕ) (a : Atom) (ws : List HeadAtom) (d made : ReadCase) (read : NumberedHead) (h : Head Tree) (found : Option Reason) → at < length v.cases → IsLeft left read h → made ≡ get_or v.cases at d →
+      (nat_eq made.head (left + 1) && same_atom made.atom a) ≡ true →
+      ((c : Case) → IsCase made c → option_map reason_of found ≡ wrong_tree gs made.atom h (right_heads E g) c.choice) →
       wrong_cases E gs g line ((left + 1, a) ∷ ws) (drop at g.cases) ≡ wrong_after line found (wrong_cases E gs g (line + 1) ws (drop (at + 1) g.cases))
   case_looked at line left a ws d made read h found w l s q k =
       let r = zip_at IsCase v.cases g.cases m.cases at d w in
       let c = r.0 in
       let i = subst (λ x. IsCase x c) (sym s) r.2 in
-      let n : c.head ≡ left + 1 = sym i.head ∙ eqb-true made.head (left + 1) (and_left (nat_eq made.head (left + 1)) (same_atom (atom_of made.atom) a) q) in
+      let n : c.head ≡ left + 1 = sym i.head ∙ eqb-true made.head (left + 1) (and_left (nat_eq made.head (left + 1)) (same_atom made.atom a) q) in
       let rest = wrong_cases E gs g (line + 1) ws (drop (suc at) g.cases) in
       let z : suc at ≡ at + 1 = omega arith in
       ap (wrong_cases E gs g line ((left + 1, a) ∷ ws)) r.1
@@ -189,7 +190,7 @@ module _ (types : List Row) (cells : List Cell) (E : Definitions) (gs : List Goa
 
   -- ---- what is named
 
-  flat_kinds : (f : laws.HeadKind → List (List ℕ)) (hs : List laws.Head) → flat_map f (map (λ (h : laws.Head). h.kind) hs) ≡ flat_map (λ (h : laws.Head). f h.kind) hs
+  flat_kinds : (f : HeadKind → List (List ℕ)) (hs : List (Head Tree)) → flat_map f (map (λ (h : Head Tree). h.kind) hs) ≡ flat_map (λ (h : Head Tree). f h.kind) hs
   flat_kinds f [] = refl
   flat_kinds f (h ∷ hs) = ap (λ zs. f h.kind ++ zs) (flat_kinds f hs)
 
@@ -197,44 +198,37 @@ module _ (types : List Row) (cells : List Cell) (E : Definitions) (gs : List Goa
   map_both' q [] ys = refl
   map_both' q (x ∷ xs) ys = ap (λ zs. q x ∷ zs) (map_both' q xs ys)
 
-  kinds_are : kinds_of v.left ++ kinds_of v.rights ≡ map (λ (h : laws.Head). h.kind) (laws.heads E g.left ++ right_heads E g)
+  kinds_are : kinds_of v.left ++ kinds_of v.rights ≡ map (λ (h : Head Tree). h.kind) (laws.heads E g.left ++ right_heads E g)
   kinds_are =
       ap (λ ks. ks ++ kinds_of v.rights) (kinds_same types cells v.left (laws.heads E g.left) m.left)
-      ∙ ap (λ ks. map (λ (h : laws.Head). h.kind) (laws.heads E g.left) ++ ks) (kinds_same types cells v.rights (right_heads E g) m.rights)
-      ∙ sym (map_both' (λ (h : laws.Head). h.kind) (laws.heads E g.left) (right_heads E g))
+      ∙ ap (λ ks. map (λ (h : Head Tree). h.kind) (laws.heads E g.left) ++ ks) (kinds_same types cells v.rights (right_heads E g) m.rights)
+      ∙ sym (map_both' (λ (h : Head Tree). h.kind) (laws.heads E g.left) (right_heads E g))
 
-  names_are : (f : laws.HeadKind → List (List ℕ)) → in_byte_order (flat_map f (kinds_of v.left ++ kinds_of v.rights)) ≡ in_byte_order (flat_map (λ (h : laws.Head). f h.kind) (laws.heads E g.left ++ right_heads E g))
+  names_are : (f : HeadKind → List (List ℕ)) → in_byte_order (flat_map f (kinds_of v.left ++ kinds_of v.rights)) ≡ in_byte_order (flat_map (λ (h : Head Tree). f h.kind) (laws.heads E g.left ++ right_heads E g))
   names_are f = ap in_byte_order (ap (flat_map f) kinds_are ∙ flat_kinds f (laws.heads E g.left ++ right_heads E g))
 
   -- the heads from one on begin with the atoms of that head
   pub atoms_first : (n : Named) → AreNamed (kinds_of v.left ++ kinds_of v.rights) n → (left : ℕ) (d : NumberedHead) → left < length v.left →
-      atoms_from (named E g) (left + 1) (drop left (laws.heads E g.left))
-      ≡ map (λ a. (left + 1, a)) (atoms_of (record { labels = n.labels.names; texts = n.texts.names }) (kind_at (get_or v.left left d).kind)) ++ atoms_from (named E g) (left + 1 + 1) (drop (left + 1) (laws.heads E g.left))
+      atoms_from (named_in (laws.heads E g.left ++ right_heads E g)) (left + 1) (drop left (laws.heads E g.left))
+      ≡ map (λ a. (left + 1, a)) (atoms_of (record { labels = n.labels.names; texts = n.texts.names }) (kind_at (get_or v.left left d).kind)) ++ atoms_from (named_in (laws.heads E g.left ++ right_heads E g)) (left + 1 + 1) (drop (left + 1) (laws.heads E g.left))
   atoms_first n a left d l =
       let y = left_head left d l in
       let h = y.0 in
       let i = (y.1).1 in
       let e : suc left ≡ left + 1 = omega arith in
       let c : drop left (laws.heads E g.left) ≡ h ∷ drop (left + 1) (laws.heads E g.left) = (y.1).0 ∙ ap (λ k. h ∷ drop k (laws.heads E g.left)) e in
-      let behind = atoms_from (named E g) (left + 1 + 1) (drop (left + 1) (laws.heads E g.left)) in
-      ap (atoms_from (named E g) (left + 1)) c
+      let behind = atoms_from (named_in (laws.heads E g.left ++ right_heads E g)) (left + 1 + 1) (drop (left + 1) (laws.heads E g.left)) in
+      ap (atoms_from (named_in (laws.heads E g.left ++ right_heads E g)) (left + 1)) c
       ∙ ap (λ ns. map (λ b. (left + 1, b)) (atoms_of ns h.kind) ++ behind)
       (sym (same_named (n.labels.names) (n.texts.names) (a.labels ∙ names_are labels_of) (a.texts ∙ names_are texts_of)))
       ∙ ap (λ k. map (λ b. (left + 1, b)) (atoms_of (record { labels = n.labels.names; texts = n.texts.names }) k) ++ behind) (sym i.kind)
     where
-      same_named : (ls ts : List (List ℕ)) → ls ≡ (named E g).labels → ts ≡ (named E g).texts → named_lists ls ts ≡ named E g
-      same_named ls ts p q = ap (λ xs. named_lists xs ts) p ∙ ap (λ xs. named_lists (named E g).labels xs) q
+      same_named : (ls ts : List (List ℕ)) → ls ≡ (named_in (laws.heads E g.left ++ right_heads E g)).labels → ts ≡ (named_in (laws.heads E g.left ++ right_heads E g)).texts → named_lists ls ts ≡ named_in (laws.heads E g.left ++ right_heads E g)
+      same_named ls ts p q = ap (λ xs. named_lists xs ts) p ∙ ap (λ xs. named_lists (named_in (laws.heads E g.left ++ right_heads E g)).labels xs) q
 
--- atoms that were read, as those wanted of the head with this number
-abbrev pub wanted_of : ℕ → List read.ProofAtom → List HeadAtom
-wanted_of n atoms = map (λ (a : read.ProofAtom). (n, atom_of a)) atoms
-
-wanted_mapped : (n : ℕ) (atoms : List read.ProofAtom) → wanted_of n atoms ≡ map (λ a. (n, a)) (map atom_of atoms)
-wanted_mapped n [] = refl
-wanted_mapped n (a ∷ atoms) = ap (λ ws. (n, atom_of a) ∷ ws) (wanted_mapped n atoms)
-
-pub wanted_are : (n : ℕ) (atoms : List read.ProofAtom) (as' : List Atom) → map atom_of atoms ≡ as' → wanted_of n atoms ≡ map (λ a. (n, a)) as'
-wanted_are n atoms as' e = wanted_mapped n atoms ∙ ap (map (λ a. (n, a))) e
+-- atoms, as those wanted of the head with this number
+abbrev pub wanted_of : ℕ → List Atom → List HeadAtom
+wanted_of n atoms = map (λ (a : Atom). (n, a)) atoms
 
 -- ---- answers
 
@@ -252,14 +246,14 @@ setting_by v a lc lr = record {
 
 pub case_says : {X : Type 0} (v : CasesView) (p : Path) (f : CasesFit v p) (at left : ℕ) (a : Atom) (made : ReadCase) (h : NumberedHead) (lc lr : ℕ) (steps : List Step) (r : Result (Option Reason) X) →
     at < length v.cases → left < length v.left → made ≡ get_or v.cases at made → h ≡ get_or v.left left h → lc ≡ h.content → lr ≡ h.rest →
-    steps ≡ (made.steps).items → (nat_eq made.head (left + 1) && same_atom (atom_of made.atom) a) ≡ true →
-    IfOk r (λ found. (types : List Row) (cells : List Cell) (gs : List Goal) (l : laws.Head) (hs : List laws.Head) (t : ChoiceTree) → Corresponds types cells (setting_by v (atom_of made.atom) lc lr) l hs gs → steps ≡ steps_of t →
-    option_map reason_of found ≡ wrong_tree gs (atom_of made.atom) l hs t) →
+    steps ≡ (made.steps).items → (nat_eq made.head (left + 1) && same_atom made.atom a) ≡ true →
+    IfOk r (λ found. (types : List Row) (cells : List Cell) (gs : List Goal) (l : Head Tree) (hs : List (Head Tree)) (t : ChoiceTree) → Corresponds types cells (setting_by v made.atom lc lr) l hs gs → steps ≡ steps_of t →
+    option_map reason_of found ≡ wrong_tree gs made.atom l hs t) →
     IfOk r (λ found. (types : List Row) (cells : List Cell) (E : Definitions) (gs : List Goal) (g : Goal) (line : ℕ) (ws : List HeadAtom) → Meets types cells E gs g v →
     wrong_cases E gs g line ((left + 1, a) ∷ ws) (drop at g.cases) ≡ wrong_after line found (wrong_cases E gs g (line + 1) ws (drop (at + 1) g.cases)))
 case_says v p f at left a made h lc lr steps (Ok found) k l e d c b s q says =
     λ types cells E gs g line ws m.
-    let A = atom_of made.atom in
+    let A = made.atom in
     let y = left_head types cells E gs g v p f m left h l in
     let read = get_or v.left left h in
     let cs = meets_setting types cells E gs g v p f m A left read y.0 y.1 in
@@ -287,38 +281,38 @@ kinds_split (h ∷ hs) (suc i) d l = ap (λ ks. kind_at h.kind ∷ ks) (kinds_sp
 
 pub named_for : (left rights : List NumberedHead) (n : Named) → AreNamed (kinds_of left ++ kinds_of rights) n → (i : ℕ) (d : NumberedHead) → i < length left → AreNamedFor (kind_at (get_or left i d).kind) n
 named_for left rights n a i d l = record {
-  labels = subst (λ ns. Names ns (labels_of k)) (sym (a.labels ∙ ap (λ ks. in_byte_order (flat_map labels_of ks)) e)) (named_among labels_of (kinds_of (take i left)) behind k);
-  texts = subst (λ ns. Names ns (texts_of k)) (sym (a.texts ∙ ap (λ ks. in_byte_order (flat_map texts_of ks)) e)) (named_among texts_of (kinds_of (take i left)) behind k);
+  labels = subst (λ ns. AreAmong (labels_of k) ns) (sym (a.labels ∙ ap (λ ks. in_byte_order (flat_map labels_of ks)) e)) (named_among labels_of (kinds_of (take i left)) behind k);
+  texts = subst (λ ns. AreAmong (texts_of k) ns) (sym (a.texts ∙ ap (λ ks. in_byte_order (flat_map texts_of ks)) e)) (named_among texts_of (kinds_of (take i left)) behind k);
 }
   where
-    k : laws.HeadKind
+    k : HeadKind
     k = kind_at (get_or left i d).kind
 
-    behind : List laws.HeadKind
+    behind : List HeadKind
     behind = kinds_of (drop (suc i) left) ++ kinds_of rights
 
     e : kinds_of left ++ kinds_of rights ≡ kinds_of (take i left) ++ k ∷ behind
     e = ap (λ ks. ks ++ kinds_of rights) (kinds_split left i d l) ∙ append_assoc (kinds_of (take i left)) (k ∷ kinds_of (drop (suc i) left)) (kinds_of rights)
 
-pub wanted_next : (n : ℕ) (items : List read.ProofAtom) (i : ℕ) (a : read.ProofAtom) (ws : List HeadAtom) → i < length items → a ≡ get_or items i a →
-    wanted_of n (drop i items) ++ ws ≡ (n, atom_of a) ∷ (wanted_of n (drop (suc i) items) ++ ws)
+pub wanted_next : (n : ℕ) (items : List Atom) (i : ℕ) (a : Atom) (ws : List HeadAtom) → i < length items → a ≡ get_or items i a →
+    wanted_of n (drop i items) ++ ws ≡ (n, a) ∷ (wanted_of n (drop (suc i) items) ++ ws)
 wanted_next n items i a ws l e =
-    ap (λ xs. wanted_of n xs ++ ws) (drop-cons items i a l) ∙ ap (λ (x : read.ProofAtom). (n, atom_of x) ∷ (wanted_of n (drop (suc i) items) ++ ws)) (sym e)
+    ap (λ xs. wanted_of n xs ++ ws) (drop-cons items i a l) ∙ ap (λ (x : Atom). (n, x) ∷ (wanted_of n (drop (suc i) items) ++ ws)) (sym e)
 
 module _ (types : List Row) (cells : List Cell) (E : Definitions) (gs : List Goal) (g : Goal) (v : CasesView) (p : Path) (f : CasesFit v p) (m : Meets types cells E gs g v) where
   -- the cases that a head wants, and those after them
-  pub head_start : (n : Named) → AreNamed (kinds_of v.left ++ kinds_of v.rights) n → (left : ℕ) (d : NumberedHead) → left < length v.left → (atoms items : List read.ProofAtom) →
-      map atom_of atoms ≡ atoms_of (record { labels = n.labels.names; texts = n.texts.names }) (kind_at (get_or v.left left d).kind) → items ≡ atoms →
-      atoms_from (named E g) (left + 1) (drop left (laws.heads E g.left)) ≡ wanted_of (left + 1) items ++ atoms_from (named E g) (left + 1 + 1) (drop (left + 1) (laws.heads E g.left))
+  pub head_start : (n : Named) → AreNamed (kinds_of v.left ++ kinds_of v.rights) n → (left : ℕ) (d : NumberedHead) → left < length v.left → (atoms items : List Atom) →
+      atoms ≡ atoms_of (record { labels = n.labels.names; texts = n.texts.names }) (kind_at (get_or v.left left d).kind) → items ≡ atoms →
+      atoms_from (named_in (laws.heads E g.left ++ right_heads E g)) (left + 1) (drop left (laws.heads E g.left)) ≡ wanted_of (left + 1) items ++ atoms_from (named_in (laws.heads E g.left ++ right_heads E g)) (left + 1 + 1) (drop (left + 1) (laws.heads E g.left))
   head_start n a left d l atoms items e q =
-      let rest = atoms_from (named E g) (left + 1 + 1) (drop (left + 1) (laws.heads E g.left)) in
+      let rest = atoms_from (named_in (laws.heads E g.left ++ right_heads E g)) (left + 1 + 1) (drop (left + 1) (laws.heads E g.left)) in
       atoms_first types cells E gs g v p f m n a left d l
-      ∙ ap (λ ws. ws ++ rest) (sym (ap (wanted_of (left + 1)) q ∙ wanted_are (left + 1) atoms (atoms_of (record { labels = n.labels.names; texts = n.texts.names }) (kind_at (get_or v.left left d).kind)) e))
+      ∙ ap (λ ws. ws ++ rest) (sym (ap (wanted_of (left + 1)) (q ∙ e)))
 
-  pub heads_done : (left : ℕ) → length v.left ≤ left → atoms_from (named E g) (left + 1) (drop left (laws.heads E g.left)) ≡ []
+  pub heads_done : (left : ℕ) → length v.left ≤ left → atoms_from (named_in (laws.heads E g.left ++ right_heads E g)) (left + 1) (drop left (laws.heads E g.left)) ≡ []
   heads_done left h =
       let l : length v.left ≡ length (laws.heads E g.left) = zip_long (IsHeadIn types cells) v.left (laws.heads E g.left) m.left in
-      ap (atoms_from (named E g) (left + 1)) (drop_all left (laws.heads E g.left) (omega arith))
+      ap (atoms_from (named_in (laws.heads E g.left ++ right_heads E g)) (left + 1)) (drop_all left (laws.heads E g.left) (omega arith))
 
   too_many : (cs : List Case) (at line : ℕ) → at < length cs → wrong_cases E gs g line [] (drop at cs) ≡ Some (line, bad_case)
   too_many [] at line h = absurd (omega arith)

@@ -12,7 +12,8 @@ use Rattle.xd_meaning.specs.CanBeEmpty.{can_be_empty}
 use Rattle.xd_sound.specs.Emptiness.{is_marked}
 use Rattle.xd_syntax.specs.declared.types.TypeId.{TypeId}
 use Rattle.xd_meaning.specs.Heads as laws
-use Rattle.xd_meaning.specs.Consistent.{Goal, numbered, wanted}
+use Rattle.xd_meaning.specs.Consistent.{Goal, right_heads}
+use Rattle.xd_rules.specs.Rules.{numbered, wanted}
 use Rattle.xd_meaning.specs.Breach.{Lined, bad_empty, empty_lines, line_behind}
 use Rattle.xd_laws.proofs.FirstWrong.{at_line, empty_stands, or_next, reason_unless, right_is_empty, wrong_cases, wrong_goal, wrong_goals}
 use Rattle.xd_moves.specs.Cells.{Cell}
@@ -57,15 +58,15 @@ module _ (types : List Row) (E : Definitions) (marks : List Bool) (known : Marks
       Some (line, bad_empty) ≡ wrong_goal E gs l
   goal_wrong gs made l line i e f =
       ap (λ n. Some (n, bad_empty)) (e ∙ line_is made l i)
-      ∙ ap (λ b. or_next (at_line (line_behind l) (reason_unless b bad_empty)) (wrong_cases E gs l.goal (line_behind l + empty_lines (l.goal).empty_right) (wanted E l.goal) (l.goal).cases))
+      ∙ ap (λ b. or_next (at_line (line_behind l) (reason_unless b bad_empty)) (wrong_cases E gs l.goal (line_behind l + empty_lines (l.goal).empty_right) (wanted (laws.heads E (l.goal).left) (right_heads E l.goal)) (l.goal).cases))
       (sym f ∙ empty_same made l.goal i.goal)
 
   goal_right : (gs : List Goal) (made : ProofGoal) (l : Lined) (line first : ℕ) → IsLinedAt types made l → line ≡ made.line + 2 + length made.rights.items → first ≡ line + empty_lines made.empty_right →
-      empty_marked marks made ≡ true → wrong_cases E gs l.goal first (wanted E l.goal) (l.goal).cases ≡ wrong_goal E gs l
+      empty_marked marks made ≡ true → wrong_cases E gs l.goal first (wanted (laws.heads E (l.goal).left) (right_heads E l.goal)) (l.goal).cases ≡ wrong_goal E gs l
   goal_right gs made l line first i e f t =
-      ap (λ n. wrong_cases E gs l.goal n (wanted E l.goal) (l.goal).cases)
+      ap (λ n. wrong_cases E gs l.goal n (wanted (laws.heads E (l.goal).left) (right_heads E l.goal)) (l.goal).cases)
       (f ∙ ap (λ n. n + empty_lines made.empty_right) (e ∙ line_is made l i) ∙ ap (λ o. line_behind l + empty_lines o) (let g = i.goal in g.empty_right))
-      ∙ ap (λ b. or_next (at_line (line_behind l) (reason_unless b bad_empty)) (wrong_cases E gs l.goal (line_behind l + empty_lines (l.goal).empty_right) (wanted E l.goal) (l.goal).cases))
+      ∙ ap (λ b. or_next (at_line (line_behind l) (reason_unless b bad_empty)) (wrong_cases E gs l.goal (line_behind l + empty_lines (l.goal).empty_right) (wanted (laws.heads E (l.goal).left) (right_heads E l.goal)) (l.goal).cases))
       (sym t ∙ empty_same made l.goal i.goal)
 
 module _ (types : List Row) (cells : List Cell) (E : Definitions) (gs : List Goal) (s : SheetView) (a : Stands types cells gs s) where
@@ -97,7 +98,7 @@ pub goal_found : {X : Type 0} (types : List Row) (cells : List Cell) (E : Defini
     ((gs : List Goal) → AllZip (IsClaimAt types) goals gs → Stands types cells gs (record { goals = goals; numbers = numbers })) →
     line ≡ made.line + 2 + length made.rights.items → first ≡ line + empty_lines made.empty_right → empty_marked marks made ≡ true → AreGoalHeads types cells E made h →
     IfOk r (λ found. (types : List Row) (cells : List Cell) (E : Definitions) (gs : List Goal) (g : Goal) → Stands types cells gs (record { goals = goals; numbers = numbers }) →
-    IsGoalAt types made g → AreGoalHeads types cells E made h → option_map breach_of found ≡ wrong_cases E gs g first (wanted E g) g.cases) →
+    IsGoalAt types made g → AreGoalHeads types cells E made h → option_map breach_of found ≡ wrong_cases E gs g first (wanted (laws.heads E g.left) (right_heads E g)) g.cases) →
     IfOk r (λ found. (gs : List Goal) (l : Lined) → AllZip (IsClaimAt types) goals gs → IsLinedAt types made l → option_map breach_of found ≡ wrong_goal E gs l)
 goal_found types cells E goals marks numbers made h line first (Ok found) known a e f t j k = λ gs l z i.
     k types cells E gs l.goal (a gs z) i.goal j ∙ goal_right types E marks known gs made l line first i e f t

@@ -6,9 +6,10 @@ use Rattle.std.proofs.lemmas.Bool.{cases_lt}
 use Rattle.xd_doc.proofs.Lists.{zip_both, flat_more}
 use Rattle.xd_syntax.specs.Kept.{ProgramTable}
 use Rattle.xd_syntax.specs.Table.{Row}
-use Rattle.xd_syntax.specs.Tree.{Definitions}
+use Rattle.xd_syntax.specs.Tree.{Tree, Definitions}
 use Rattle.xd_syntax.specs.Types.{tree}
 use Rattle.xd_syntax.specs.declared.types.TypeId.{TypeId}
+use Rattle.xd_rules.specs.Heads.{Head}
 use Rattle.xd_meaning.specs.Heads as laws
 use Rattle.xd_continuations.specs.Chains.{KeepsLinks}
 use Rattle.xd_moves.specs.Cells.{Cell}
@@ -27,10 +28,10 @@ use Rattle.xd_proof.specs.declared.cases.ReadCase.{ReadCase}
 use Rattle.xd_proof_check.specs.declared.heads.GoalHeads.{GoalHeads}
 use Rattle.xd_proof_check.specs.declared.path.Path.{Path}
 
-numbered_kept : (types : List Row) (old new : List Cell) → KeepsLinks old new → (made : NumberedHead) (h : laws.Head) → IsHeadIn types old made h → IsHeadIn types new made h
+numbered_kept : (types : List Row) (old new : List Cell) → KeepsLinks old new → (made : NumberedHead) (h : Head Tree) → IsHeadIn types old made h → IsHeadIn types new made h
 numbered_kept types old new k made h i = record { kind = i.kind; content = number_kept types old new k made.content h.content i.content; rest = number_kept types old new k made.rest h.rest i.rest }
 
-pub heads_kept : (types : List Row) (old new : List Cell) → KeepsLinks old new → (made : List NumberedHead) (hs : List laws.Head) → AllZip (IsHeadIn types old) made hs → AllZip (IsHeadIn types new) made hs
+pub heads_kept : (types : List Row) (old new : List Cell) → KeepsLinks old new → (made : List NumberedHead) (hs : List (Head Tree)) → AllZip (IsHeadIn types old) made hs → AllZip (IsHeadIn types new) made hs
 heads_kept types old new k [] [] z = tt
 heads_kept types old new k [] (h ∷ hs) z = absurd z
 heads_kept types old new k (m ∷ ms) [] z = absurd z
@@ -40,7 +41,7 @@ heads_kept types old new k (m ∷ ms) (h ∷ hs) z = (numbered_kept types old ne
 pub heads_more : (types : List Row) (old new : List Cell) (E : Definitions) (ids : List TypeId) (i : ℕ) (d : TypeId) (made made' more : List NumberedHead) → KeepsLinks old new → i < length ids →
     AreHeadsOf types old E (take i ids) made → AllZip (IsHeadIn types new) more (laws.heads E (tree types (get_or ids i d))) → made' ≡ made ++ more → AreHeadsOf types new E (take (i + 1) ids) made'
 heads_more types old new E ids i d made made' more k h a b e =
-    let f : TypeId → List laws.Head = λ id. laws.heads E (tree types id) in
+    let f : TypeId → List (Head Tree) = λ id. laws.heads E (tree types id) in
     let l = ap (flat_map f) (take_more ids i d h) ∙ flat_more f (take i ids) (get_or ids i d) in
     subst (λ xs. AllZip (IsHeadIn types new) xs (flat_map f (take (i + 1) ids))) (sym e)
     (subst (λ hs. AllZip (IsHeadIn types new) (made ++ more) hs) (sym l)
@@ -65,7 +66,7 @@ numbers_within p l s i = elim (cases_lt i (length p.types)) [ inl h ↦ (let k =
     beyond (n ∷ ns) (suc i) h = beyond ns i (omega arith)
 
 -- heads have their places in marks that are long enough
-parts_fit : (types : List Row) (cells : List Cell) (p : Path) → length cells < length p.content.items → length cells < length p.rest.items → (made : List NumberedHead) (hs : List laws.Head) →
+parts_fit : (types : List Row) (cells : List Cell) (p : Path) → length cells < length p.content.items → length cells < length p.rest.items → (made : List NumberedHead) (hs : List (Head Tree)) →
     AllZip (IsHeadIn types cells) made hs → AllByRecursion (PartsFit p) made
 parts_fit types cells p c r [] hs z = tt
 parts_fit types cells p c r (m ∷ ms) [] z = absurd z

@@ -12,13 +12,12 @@ use Rattle.std.proofs.lemmas.Grind.{flat_map-append}
 use Rattle.xd_doc.specs.Classes.{is_named}
 use Rattle.xd_doc.proofs.Bools.{or_join}
 use Rattle.xd_doc.proofs.Lists.{map_append}
-use Rattle.xd_meaning.specs.Heads.{HeadKind}
-use Rattle.xd_meaning.specs.Consistent.{in_byte_order}
+use Rattle.xd_rules.specs.Heads.{HeadKind, in_byte_order}
 use Rattle.xd_heads.specs.HeadList.{kind_at}
 use Rattle.xd_heads.specs.declared.lister.NumberedHead.{NumberedHead}
 use Rattle.xd_proof_check.specs.Atoms.{kinds_of}
 use Rattle.xd_proof_check.specs.Names.{AddsNames}
-use Rattle.xd_proof_check.proofs.AtomLemmas.{in_order}
+use Rattle.xd_rules.proofs.NamesInOrder.{sorted_is}
 
 or_none : (b : Bool) → b ≡ (b || false)
 or_none true = refl
@@ -77,6 +76,8 @@ adds_head f a b c hs i x h e k m =
 pub both_named : (f : HeadKind → List (List ℕ)) (old mid new : List (List ℕ)) (ks js : List HeadKind) → old ≡ [] → AddsNames old (flat_map f ks) mid → AddsNames mid (flat_map f js) new →
     (names : List (List ℕ)) → IsStrictlySortedBy (λ x y. slice_cmp nat_cmp x y) names → ((l : List ℕ) → is_named names l ≡ is_named new l) → names ≡ in_byte_order (flat_map f (ks ++ js))
 both_named f old mid new ks js a b c names s h =
-    in_order names (flat_map f ks ++ flat_map f js) s
-    (λ l. h l ∙ adds_then old mid new (flat_map f ks) (flat_map f js) b c l ∙ ap (λ xs. is_named xs l || is_named (flat_map f ks ++ flat_map f js) l) a)
+    sorted_is (flat_map f ks ++ flat_map f js) names (record {
+      order = s;
+      same = λ l. h l ∙ adds_then old mid new (flat_map f ks) (flat_map f js) b c l ∙ ap (λ xs. is_named xs l || is_named (flat_map f ks ++ flat_map f js) l) a;
+    })
     ∙ ap in_byte_order (sym (flat_map-append f ks js))

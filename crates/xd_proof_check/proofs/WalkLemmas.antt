@@ -7,8 +7,10 @@ use Rattle.xd_syntax.specs.Tree.{Tree}
 use Rattle.xd_syntax.specs.Table.{Row}
 use Rattle.xd_syntax.specs.SoundTables.{IsTypeAt}
 use Rattle.xd_syntax.specs.declared.types.TypeId.{TypeId}
-use Rattle.xd_meaning.specs.Heads.{Head, HeadKind}
-use Rattle.xd_meaning.specs.Consistent.{Atom, ChoiceTree, settles_content, settles_rest, split_on, Goal, numbered, matches_atom, matching, Sides, no_sides, on_content, on_rest}
+use Rattle.xd_rules.specs.Heads.{Head, HeadKind, matches}
+use Rattle.xd_rules.specs.declared.atom.Atom.{Atom}
+use Rattle.xd_rules.specs.Rules.{ChoiceTree, settles_content, settles_rest, split_on, numbered, matching, Sides, no_sides, on_content, on_rest}
+use Rattle.xd_meaning.specs.Consistent.{Goal}
 use Rattle.xd_meaning.specs.Breach.{Reason, bad_split, bad_leaf}
 use Rattle.xd_laws.proofs.FirstWrong.{same_tree, head_matches, has_number, has_part, some_head, each_some_head, leaf_stands, split_allowed, reason_unless, or_next, wrong_choice, wrong_text}
 use Rattle.xd_laws.proofs.SameTrees.{same_tree-is, tree_same}
@@ -56,10 +58,10 @@ module _ (types : List Row) (cells : List Cell) (numbers : List ℕ) (known : Kn
   type_number : (id : TypeId) (T : Tree) → IsTypeAt types T id → IsNumberIn types cells (number_at numbers id.at) T
   type_number id T i = subst (IsNumberIn types cells (number_at numbers id.at)) i.same (known.nodes id.at i.belongs)
 
-  module _ (part : Head → Tree) (hs : List Head) where
+  module _ (part : Head Tree → Tree) (hs : List (Head Tree)) where
     -- the number is that of a part of the right head of this number
     IsPartAt : ℕ → ℕ → Type 0
-    IsPartAt k n = (h : Head) × (numbered hs n ≡ Some h) × IsNumberIn types cells k (part h)
+    IsPartAt k n = (h : Head Tree) × (numbered hs n ≡ Some h) × IsNumberIn types cells k (part h)
 
     among_same : (ks ns : List ℕ) → AllZip IsPartAt ks ns → (m : ℕ) (T : Tree) → IsNumberIn types cells m T → is_among ks m ≡ some_head part hs ns T
     unfolding IsPartAt
@@ -80,7 +82,7 @@ module _ (types : List Row) (cells : List Cell) (numbers : List ℕ) (known : Kn
         ap (λ b. b && list_all (λ (i : TypeId). is_among ks (number_at numbers i.at)) ids) (among_same ks ns a (number_at numbers id.at) T (type_number id T z.0))
         ∙ ap (λ b. some_head part hs ns T && b) (each_same ks ns a ids Ts z.1)
 
-    leaf_same : (goals : List ProofGoal) (gs : List Goal) → AllZip (IsClaimAt types) goals gs → (k : ℕ) (left : Head) → IsNumberIn types cells k (part left) → (ks ns : List ℕ) →
+    leaf_same : (goals : List ProofGoal) (gs : List Goal) → AllZip (IsClaimAt types) goals gs → (k : ℕ) (left : Head Tree) → IsNumberIn types cells k (part left) → (ks ns : List ℕ) →
         AllZip IsPartAt ks ns → (n : ℕ) → leaf_numbered numbers k ks (numbered goals n) ≡ leaf_stands part left hs ns (numbered gs n)
     leaf_same goals gs z k left i ks ns a zero = refl
     leaf_same [] [] z k left i ks ns a (suc n) = refl
@@ -93,14 +95,14 @@ module _ (types : List Row) (cells : List Cell) (numbers : List ℕ) (known : Kn
     leaf_same (m ∷ goals) (g ∷ gs) z k left i ks ns a (suc (suc n)) = leaf_same goals gs z.1 k left i ks ns a (suc n)
 
     -- the parts of right heads by their positions
-    part_at : (cs : List ℕ) (js : List Head) → AllZip (λ number (h : Head). IsNumberIn types cells number (part h)) cs js → (i : ℕ) → i < length cs →
-        (h : Head) × (numbered js (suc i) ≡ Some h) × IsNumberIn types cells (number_at cs i) (part h)
+    part_at : (cs : List ℕ) (js : List (Head Tree)) → AllZip (λ number (h : Head Tree). IsNumberIn types cells number (part h)) cs js → (i : ℕ) → i < length cs →
+        (h : Head Tree) × (numbered js (suc i) ≡ Some h) × IsNumberIn types cells (number_at cs i) (part h)
     part_at [] js z i l = absurd (omega arith)
     part_at (c ∷ cs) [] z i l = absurd z
     part_at (c ∷ cs) (j ∷ js) z zero l = (j, refl, z.0)
     part_at (c ∷ cs) (j ∷ js) z (suc i) l = part_at cs js z.1 i (omega arith)
 
-    content_parts : (cs : List ℕ) → AllZip (λ number (h : Head). IsNumberIn types cells number (part h)) cs hs → (ts : List Turn) → AllByRecursion (λ (t : Turn). t.right < length cs) ts →
+    content_parts : (cs : List ℕ) → AllZip (λ number (h : Head Tree). IsNumberIn types cells number (part h)) cs hs → (ts : List Turn) → AllByRecursion (λ (t : Turn). t.right < length cs) ts →
         AllZip IsPartAt (content_side cs ts) (sides_of ts).content
     unfolding IsPartAt sides_of
     content_parts cs z [] w = tt
@@ -111,7 +113,7 @@ module _ (types : List Row) (cells : List Cell) (numbers : List ℕ) (known : Kn
         go true i = i
         go false i = (part_at cs hs z t.right w.0, i)
 
-    rest_parts : (rs : List ℕ) → AllZip (λ number (h : Head). IsNumberIn types cells number (part h)) rs hs → (ts : List Turn) → AllByRecursion (λ (t : Turn). t.right < length rs) ts →
+    rest_parts : (rs : List ℕ) → AllZip (λ number (h : Head Tree). IsNumberIn types cells number (part h)) rs hs → (ts : List Turn) → AllByRecursion (λ (t : Turn). t.right < length rs) ts →
         AllZip IsPartAt (rest_side rs ts) (sides_of ts).rest
     unfolding IsPartAt sides_of
     rest_parts rs z [] w = tt
@@ -124,7 +126,7 @@ module _ (types : List Row) (cells : List Cell) (numbers : List ℕ) (known : Kn
 
 -- ---- splits
 
-kind_same : (a : Atom) (hs : List Head) (n : ℕ) → kind_matches a (numbered (map (λ (h : Head). h.kind) hs) n) ≡ head_matches a (numbered hs n)
+kind_same : (a : Atom) (hs : List (Head Tree)) (n : ℕ) → kind_matches a (numbered (map (λ (h : Head Tree). h.kind) hs) n) ≡ head_matches a (numbered hs n)
 kind_same a hs zero = refl
 kind_same a [] (suc n) = refl
 kind_same a (h ∷ hs) (suc zero) = refl
@@ -156,8 +158,8 @@ split_same (t ∷ ts) k = go t.on_rest (split_same ts k)
         or_assoc true b c = refl
         or_assoc false b c = refl
 
-allowed_same : (a : Atom) (hs : List Head) (ts : List Turn) (n : ℕ) →
-    (kind_matches a (numbered (map (λ (h : Head). h.kind) hs) n) && not (is_among (heads_split ts) (n - 1))) ≡ split_allowed a hs (sides_of ts) n
+allowed_same : (a : Atom) (hs : List (Head Tree)) (ts : List Turn) (n : ℕ) →
+    (kind_matches a (numbered (map (λ (h : Head Tree). h.kind) hs) n) && not (is_among (heads_split ts) (n - 1))) ≡ split_allowed a hs (sides_of ts) n
 allowed_same a hs ts zero = refl
 allowed_same a hs ts (suc k) =
     let e : suc k - 1 ≡ k = omega arith in
@@ -177,7 +179,7 @@ after_tree (split_on n t u) ts ss =
 pub tree_left : (t : ChoiceTree) → turns_after [] (steps_of t) ≡ []
 tree_left t = ap (turns_after []) (sym (append-nil (steps_of t))) ∙ after_tree t [] []
 
-module _ (types : List Row) (cells : List Cell) (s : SettingView) (left : Head) (hs : List Head) (gs : List Goal) (c : Corresponds types cells s left hs gs) where
+module _ (types : List Row) (cells : List Cell) (s : SettingView) (left : Head Tree) (hs : List (Head Tree)) (gs : List Goal) (c : Corresponds types cells s left hs gs) where
   fits_same : (ts : List Turn) (n : ℕ) → split_fits s ts n ≡ split_allowed s.atom hs (sides_of ts) n
   fits_same ts n = ap (λ ks. kind_matches s.atom (numbered ks n) && not (is_among (heads_split ts) (n - 1))) c.kinds ∙ allowed_same s.atom hs ts n
 
@@ -189,15 +191,15 @@ module _ (types : List Row) (cells : List Cell) (s : SettingView) (left : Head) 
 
   long_rests : length s.rests ≡ length s.contents
   long_rests =
-      long_zip (λ number (h : Head). IsNumberIn types cells number h.rest) s.rests hs c.rests ∙ sym (long_zip (λ number (h : Head). IsNumberIn types cells number h.content) s.contents hs c.contents)
+      long_zip (λ number (h : Head Tree). IsNumberIn types cells number h.rest) s.rests hs c.rests ∙ sym (long_zip (λ number (h : Head Tree). IsNumberIn types cells number h.content) s.contents hs c.contents)
 
   rests_within : (ts : List Turn) → AllByRecursion (λ (t : Turn). t.right < length s.contents) ts → AllByRecursion (λ (t : Turn). t.right < length s.rests) ts
   rests_within ts w = subst (λ n. AllByRecursion (λ (t : Turn). t.right < n) ts) (sym long_rests) w
 
   kinds_long : length s.kinds ≡ length s.contents
-  kinds_long = ap length c.kinds ∙ mapped hs ∙ sym (long_zip (λ number (h : Head). IsNumberIn types cells number h.content) s.contents hs c.contents)
+  kinds_long = ap length c.kinds ∙ mapped hs ∙ sym (long_zip (λ number (h : Head Tree). IsNumberIn types cells number h.content) s.contents hs c.contents)
     where
-      mapped : (js : List Head) → length (map (λ (h : Head). h.kind) js) ≡ length js
+      mapped : (js : List (Head Tree)) → length (map (λ (h : Head Tree). h.kind) js) ≡ length js
       mapped [] = refl
       mapped (j ∷ js) = ap suc (mapped js)
 
@@ -258,13 +260,13 @@ module _ (types : List Row) (cells : List Cell) (s : SettingView) (left : Head) 
 
   -- ---- texts
 
-  turns_match : (n : ℕ) (js : List Head) → (sides_of (rest_turns s.atom n (map (λ (h : Head). h.kind) js))).rest ≡ matching s.atom (suc n) js
+  turns_match : (n : ℕ) (js : List (Head Tree)) → (sides_of (rest_turns s.atom n (map (λ (h : Head Tree). h.kind) js))).rest ≡ matching s.atom (suc n) js
   unfolding sides_of
   turns_match n [] = refl
-  turns_match n (j ∷ js) = go (matches_atom s.atom j.kind) (turns_match (suc n) js ∙ ap (λ m. matching s.atom m js) (omega arith))
+  turns_match n (j ∷ js) = go (matches j.kind s.atom) (turns_match (suc n) js ∙ ap (λ m. matching s.atom m js) (omega arith))
     where
       more : List Turn
-      more = rest_turns s.atom (suc n) (map (λ (h : Head). h.kind) js)
+      more = rest_turns s.atom (suc n) (map (λ (h : Head Tree). h.kind) js)
 
       go : (b : Bool) → (sides_of more).rest ≡ matching s.atom (suc n + 1) js →
           (sides_of (cond b (record { right = n; on_rest = true } ∷ more) more)).rest ≡ cond b (suc n ∷ matching s.atom (suc n + 1) js) (matching s.atom (suc n + 1) js)
@@ -273,7 +275,7 @@ module _ (types : List Row) (cells : List Cell) (s : SettingView) (left : Head) 
 
   turns_within : (n total : ℕ) (ks : List HeadKind) → n + length ks ≤ total → AllByRecursion (λ (t : Turn). t.right < total) (rest_turns s.atom n ks)
   turns_within n total [] h = tt
-  turns_within n total (k ∷ ks) h = go (matches_atom s.atom k) (turns_within (suc n) total ks (omega arith))
+  turns_within n total (k ∷ ks) h = go (matches k s.atom) (turns_within (suc n) total ks (omega arith))
     where
       go : (b : Bool) → AllByRecursion (λ (t : Turn). t.right < total) (rest_turns s.atom (suc n) ks) →
           AllByRecursion (λ (t : Turn). t.right < total) (cond b (record { right = n; on_rest = true } ∷ rest_turns s.atom (suc n) ks) (rest_turns s.atom (suc n) ks))

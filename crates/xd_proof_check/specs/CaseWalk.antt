@@ -4,7 +4,8 @@ use Rattle.std.specs.List.{AllByRecursion, AllZip}
 use Rattle.xd_syntax.specs.Tree.{Definitions}
 use Rattle.xd_syntax.specs.Table.{Row}
 use Rattle.xd_meaning.specs.Heads.{heads}
-use Rattle.xd_meaning.specs.Consistent.{Goal, HeadAtom, right_heads}
+use Rattle.xd_meaning.specs.Consistent.{Goal, right_heads}
+use Rattle.xd_rules.specs.Rules.{HeadAtom}
 use Rattle.xd_laws.proofs.FirstWrong.{Refusal, wrong_cases}
 use Rattle.xd_moves.specs.Cells.{Cell}
 use Rattle.xd_heads.specs.Numbered.{IsHeadIn}

@@ -6,7 +6,8 @@ use Rattle.xd_syntax.specs.Table.{Row, tree_at}
 use Rattle.xd_meaning.specs.CanBeEmpty.{can_be_empty}
 use Rattle.xd_sound.specs.Emptiness.{is_marked}
 use Rattle.xd_syntax.specs.declared.types.TypeId.{TypeId}
-use Rattle.xd_meaning.specs.Consistent.{Goal, numbered}
+use Rattle.xd_meaning.specs.Consistent.{Goal}
+use Rattle.xd_rules.specs.Rules.{numbered}
 use Rattle.xd_laws.proofs.FirstWrong.{Refusal}
 use Rattle.xd_heads.specs.declared.lister.NumberedHead.{NumberedHead}
 use Rattle.xd_proof.specs.declared.proof.ProofGoal.{ProofGoal}

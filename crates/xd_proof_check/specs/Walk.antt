@@ -1,13 +1,13 @@
 -- A walk over the steps of a choice tree, along a path of splits.
 use Rattle.std.specs.Prelude.{◌≡◌, ℕ, suc, ◌-◌, ◌<◌, Bool, true, false, not, cond, ◌&&◌, List, [], ◌∷◌, length, Option, Some, None}
-use Rattle.xd_meaning.specs.Heads.{HeadKind}
-use Rattle.xd_meaning.specs.Consistent.{Atom, ChoiceTree, settles_content, settles_rest, split_on, numbered, matches_atom}
+use Rattle.xd_rules.specs.Heads.{HeadKind, matches}
+use Rattle.xd_rules.specs.declared.atom.Atom.{Atom}
+use Rattle.xd_rules.specs.Rules.{ChoiceTree, settles_content, settles_rest, split_on, numbered}
 use Rattle.xd_meaning.specs.Breach.{Reason, bad_split, bad_leaf}
 use Rattle.xd_laws.proofs.FirstWrong.{reason_unless, or_next}
 use Rattle.xd_proof.specs.declared.proof.ProofGoal.{ProofGoal}
 use Rattle.xd_proof.specs.declared.steps.Step.{Step}
 use Rattle.xd_proof.specs.declared.steps.Step.TheVariants.{Content, Rest, Split}
-use Rattle.xd_proof.specs.Cases.{atom_of}
 use Rattle.xd_proof_check.specs.Atoms.{kinds_of}
 use Rattle.xd_moves.specs.Codes.{number_at}
 use Rattle.xd_proof_check.specs.Leaves.{GoalsBelong, is_among, leaf_numbered}
@@ -33,7 +33,7 @@ abbrev pub setting_of : Setting → SettingView
 setting_of s = record {
   numbers = s.numbers.now;
   goals = s.goals.now;
-  atom = atom_of s.atom.now;
+  atom = s.atom.now;
   kinds = kinds_of s.rights.now;
   left_content = s.left_content;
   left_rest = s.left_rest;
@@ -43,7 +43,7 @@ setting_of s = record {
 
 abbrev pub kind_matches : Atom → Option HeadKind → Bool
 kind_matches a None = false
-kind_matches a (Some k) = matches_atom a k
+kind_matches a (Some k) = matches k a
 
 -- the right head with this number matches, and is not split on yet
 abbrev pub split_fits : SettingView → List Turn → ℕ → Bool
@@ -73,7 +73,7 @@ turns_after ts (s ∷ ss) = turns_after (turns_behind ts s) ss
 -- the right heads of these numbers, from n on, that match, as turns on the rest side
 abbrev pub rest_turns : Atom → ℕ → List HeadKind → List Turn
 rest_turns a n [] = []
-rest_turns a n (k ∷ ks) = cond (matches_atom a k) (record { right = n; on_rest = true } ∷ rest_turns a (suc n) ks) (rest_turns a (suc n) ks)
+rest_turns a n (k ∷ ks) = cond (matches k a) (record { right = n; on_rest = true } ∷ rest_turns a (suc n) ks) (rest_turns a (suc n) ks)
 
 -- all types and right heads of a setting have their places in the marks of a path
 pub record IsSetting (s : SettingView) (p : Path) : Type 0 where

@@ -1,23 +1,19 @@
 //! Atoms: what the heads of a goal name, and the atoms of a head.
 
-ghost use Rattle.std.specs.Prelude.{◌≡◌, ◌++◌, ◌∷◌, [], ℕ, List, true, cond, map, flat_map, IfOk, OnOk};
-ghost use Rattle.std.specs.List.{filter};
+ghost use Rattle.std.specs.Prelude.{◌≡◌, ◌++◌, ◌∷◌, [], ℕ, List, true, cond, flat_map, IfOk, OnOk};
 ghost use Rattle.xd_doc.specs.ClassForms.{IsClass, IsTextClass};
-ghost use Rattle.xd_doc.specs.Classes.{class_has};
-ghost use Rattle.xd_meaning.specs.Consistent as laws;
-ghost use Rattle.xd_meaning.specs.Consistent.{atoms_of, labels_of, matches_atom, texts_of, this_label, this_text};
-ghost use Rattle.xd_meaning.specs.Heads.{element_in, text_in};
+ghost use Rattle.xd_rules.specs.Heads as inclusion;
+ghost use Rattle.xd_rules.specs.Heads.{labels_of, matches, texts_of};
 ghost use Rattle.xd_laws.proofs.FirstWrong.{same_atom};
 ghost use Rattle.xd_heads.specs.HeadList.{kind_at};
-ghost use Rattle.xd_proof.specs.Cases.{atom_of};
 ghost use Rattle.xd_proof_check.specs.Atoms.{AreNamed, AreNamedFor, kinds_of};
-ghost use Rattle.xd_proof_check.specs.Names.{AddsNames, Names};
+ghost use Rattle.xd_proof_check.specs.Names.{AddsNames};
 
 use std::alloc::Global;
 use std::collections::BTreeSet;
 use xd_doc::{Class, Label, NoMemory, Text, Words};
 use xd_heads::{HeadKind, NumberedHead};
-use xd_proof::ProofAtom;
+use xd_rules::{Atom, label_atoms, text_atoms};
 
 /// The labels and the texts that heads name, as classes that have all others.
 #[derive(Drop)]
@@ -27,37 +23,37 @@ pub(crate) struct Named {
 }
 
 /// Whether the atom is in the class of a head.
-pub(crate) fn matches(atom: &ProofAtom, kind: &HeadKind) -> bool
-    ensures { result ≡ matches_atom (atom_of atom.now) (kind_at kind.now) }
+pub(crate) fn matches(atom: &Atom, kind: &HeadKind) -> bool
+    ensures { result ≡ matches (kind_at kind.now) atom.now }
 {
     match kind {
         HeadKind::Label(class) => match atom {
-            ProofAtom::Label(label) => class.has(label),
-            ProofAtom::OtherLabel => class.takes_others(),
+            Atom::Label(label) => class.has(label),
+            Atom::OtherLabel => class.takes_others(),
             _ => false,
         },
         HeadKind::Text(words) => match atom {
-            ProofAtom::Text(text) => words.has(text),
-            ProofAtom::OtherText => words.takes_others(),
+            Atom::Text(text) => words.has(text),
+            Atom::OtherText => words.takes_others(),
             _ => false,
         },
     }
 }
 
-pub(crate) fn are_same(one: &ProofAtom, other: &ProofAtom) -> bool
-    ensures { result ≡ same_atom (atom_of one.now) (atom_of other.now) }
+pub(crate) fn are_same(one: &Atom, other: &Atom) -> bool
+    ensures { result ≡ same_atom one.now other.now }
 {
     match one {
-        ProofAtom::Label(label) => match other {
-            ProofAtom::Label(same) => label == same,
+        Atom::Label(label) => match other {
+            Atom::Label(same) => label == same,
             _ => false,
         },
-        ProofAtom::OtherLabel => matches!(other, ProofAtom::OtherLabel),
-        ProofAtom::Text(text) => match other {
-            ProofAtom::Text(same) => text == same,
+        Atom::OtherLabel => matches!(other, Atom::OtherLabel),
+        Atom::Text(text) => match other {
+            Atom::Text(same) => text == same,
             _ => false,
         },
-        ProofAtom::OtherText => matches!(other, ProofAtom::OtherText),
+        Atom::OtherText => matches!(other, Atom::OtherText),
     }
 }
 
@@ -165,74 +161,12 @@ fn put_text(texts: &mut BTreeSet<Text>, text: &Text) -> Result<(), NoMemory>
 
 /// The atoms of a head among what is named, in order. Takes time linear in the head's own names and
 /// its atoms, but for the search of each name in its class.
-pub(crate) fn atoms_of(
-    alloc: Global,
-    kind: &HeadKind,
-    named: &Named,
-) -> Result<Vec<ProofAtom>, NoMemory>
+pub(crate) fn atoms_of(alloc: Global, kind: &HeadKind, named: &Named) -> Result<Vec<Atom>, NoMemory>
     requires { AreNamedFor (kind_at kind.now) named.now }
-    ensures { IfOk result (λ atoms. map atom_of atoms.items ≡ laws.atoms_of (record { labels = named.now.labels.names; texts = named.now.texts.names }) (kind_at kind.now)) }
+    ensures { IfOk result (λ atoms. atoms.items ≡ inclusion.atoms_of (record { labels = named.now.labels.names; texts = named.now.texts.names }) (kind_at kind.now)) }
 {
     match kind {
         HeadKind::Label(class) => label_atoms(alloc, class, &named.labels),
         HeadKind::Text(words) => text_atoms(alloc, words, &named.texts),
     }
-}
-
-fn label_atoms(alloc: Global, class: &Class, named: &Class) -> Result<Vec<ProofAtom>, NoMemory>
-    requires { Names named.now.names class.now.names }
-    ensures { IfOk result (λ atoms. (texts : List (List ℕ)) → map atom_of atoms.items ≡ laws.atoms_of (record { labels = named.now.names; texts = texts }) (element_in class.now)) }
-{
-    let mut atoms = Vec::new(alloc);
-    if class.takes_others() {
-        push_labels_in(&mut atoms, class, named.names())?;
-        atoms.push(ProofAtom::OtherLabel)?;
-        return Ok(atoms);
-    }
-    let _named = named.names();
-    push_labels_in(&mut atoms, class, class.names())?;
-    Ok(atoms)
-}
-
-/// Those of these labels that are in the class.
-fn push_labels_in(
-    atoms: &mut Vec<ProofAtom>,
-    class: &Class,
-    labels: &[Label],
-) -> Result<(), NoMemory>
-    ensures { OnOk result (map atom_of atoms.new.items ≡ map atom_of atoms.old.items ++ map this_label (filter (class_has class.now) labels.now)) }
-{
-    for label in labels {
-        if class.has(label) {
-            atoms.push(ProofAtom::Label(label.share()?))?;
-        }
-    }
-    Ok(())
-}
-
-fn text_atoms(alloc: Global, words: &Words, named: &Words) -> Result<Vec<ProofAtom>, NoMemory>
-    requires { Names named.now.names words.now.names }
-    ensures { IfOk result (λ atoms. (labels : List (List ℕ)) → map atom_of atoms.items ≡ laws.atoms_of (record { labels = labels; texts = named.now.names }) (text_in words.now)) }
-{
-    let mut atoms = Vec::new(alloc);
-    if words.takes_others() {
-        push_texts_in(&mut atoms, words, named.texts())?;
-        atoms.push(ProofAtom::OtherText)?;
-        return Ok(atoms);
-    }
-    let _named = named.texts();
-    push_texts_in(&mut atoms, words, words.texts())?;
-    Ok(atoms)
-}
-
-/// Those of these texts that are in the class.
-fn push_texts_in(atoms: &mut Vec<ProofAtom>, words: &Words, texts: &[Text]) -> Result<(), NoMemory>
-    ensures { OnOk result (map atom_of atoms.new.items ≡ map atom_of atoms.old.items ++ map this_text (filter (class_has words.now) texts.now)) }
-{
-    for text in texts {
-        if words.has(text) {
-            atoms.push(ProofAtom::Text(text.share()?))?;
-        }
-    }
-    Ok(())
 }

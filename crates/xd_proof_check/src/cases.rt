@@ -2,11 +2,11 @@
 
 ghost use Rattle.std.specs.Prelude.{◌≡◌, ◌+◌, ◌<◌, ◌≤◌, ◌^◌, ◌∷◌, ◌++◌, ◌&&◌, ℕ, List, nat_eq, length, drop, IfOk};
 ghost use Rattle.std.specs.Option.{IfNone, IfSome, option_map};
-ghost use Rattle.xd_meaning.specs.Consistent as laws;
-ghost use Rattle.xd_meaning.specs.Consistent.{Goal, HeadAtom, atoms_from, wanted};
+ghost use Rattle.xd_rules.specs.Heads as inclusion;
+ghost use Rattle.xd_meaning.specs.Consistent.{Goal, right_heads};
+ghost use Rattle.xd_rules.specs.Rules.{HeadAtom, atoms_from, wanted};
 ghost use Rattle.xd_meaning.specs.Heads.{heads};
 ghost use Rattle.xd_laws.proofs.FirstWrong.{same_atom, wrong_cases};
-ghost use Rattle.xd_proof.specs.Cases.{atom_of};
 ghost use Rattle.xd_syntax.specs.Table.{Row};
 ghost use Rattle.xd_syntax.specs.Tree.{Definitions};
 ghost use Rattle.xd_moves.specs.Cells.{Cell};
@@ -22,7 +22,7 @@ use crate::walk::{Setting, check_tree};
 use std::alloc::Global;
 use xd_doc::NoMemory;
 use xd_heads::NumberedHead;
-use xd_proof::{ProofAtom, ProofGoal, ReadCase};
+use xd_proof::{Atom, ProofGoal, ReadCase};
 
 /// The cases of a goal, and what they are looked at in.
 #[derive(Clone, Copy)]
@@ -56,7 +56,7 @@ pub(crate) fn check_cases(
 ) -> Result<Option<(usize, Reason)>, NoMemory>
     requires fit { CasesFit (cases_of cases.now) path.old }
     requires clear { IsClear path.old }
-    ensures found { IfOk result (λ found. (types : List Row) (cells : List Cell) (E : Definitions) (gs : List Goal) (g : Goal) (line : ℕ) → Meets types cells E gs g (cases_of cases.now) → wrong_cases E gs g line (wanted E g) g.cases ≡ option_map (λ (p : ℕ × Reason). (line + p.0, reason_of p.1)) found) }
+    ensures found { IfOk result (λ found. (types : List Row) (cells : List Cell) (E : Definitions) (gs : List Goal) (g : Goal) (line : ℕ) → Meets types cells E gs g (cases_of cases.now) → wrong_cases E gs g line (wanted (heads E g.left) (right_heads E g)) g.cases ≡ option_map (λ (p : ℕ × Reason). (line + p.0, reason_of p.1)) found) }
     ensures within { IfOk result (λ found. IfSome found (λ p. p.0 ≤ length cases.now.cases.now)) }
     ensures clear { IfOk result (λ found. IfNone found (IsClear path.new)) }
     ensures keeps { IfOk result (λ found. IfNone found (KeepsRoom path.old path.new)) }
@@ -89,7 +89,7 @@ fn head_cases(
     requires left { left < length cases.now.left.now }
     requires named { AreNamed (kinds_of cases.now.left.now ++ kinds_of cases.now.rights.now) named.now }
     requires within { at ≤ length cases.now.cases.now }
-    ensures found { IfOk result (λ progress. (types : List Row) (cells : List Cell) (E : Definitions) (gs : List Goal) (g : Goal) (line : ℕ) → Meets types cells E gs g (cases_of cases.now) → wrong_cases E gs g (line + at) (atoms_from (laws.named E g) (left + 1) (drop left (heads E g.left))) (drop at g.cases) ≡ wrong_behind E gs g line progress (atoms_from (laws.named E g) (left + 1 + 1) (drop (left + 1) (heads E g.left)))) }
+    ensures found { IfOk result (λ progress. (types : List Row) (cells : List Cell) (E : Definitions) (gs : List Goal) (g : Goal) (line : ℕ) → Meets types cells E gs g (cases_of cases.now) → wrong_cases E gs g (line + at) (atoms_from (inclusion.named_in (heads E g.left ++ right_heads E g)) (left + 1) (drop left (heads E g.left))) (drop at g.cases) ≡ wrong_behind E gs g line progress (atoms_from (inclusion.named_in (heads E g.left ++ right_heads E g)) (left + 1 + 1) (drop (left + 1) (heads E g.left)))) }
     ensures within { IfOk result (IsWithin (length cases.now.cases.now)) }
     ensures clear { IfOk result (λ progress. IsKept progress (IsClear path.new × KeepsRoom path.old path.new)) }
 {
@@ -110,13 +110,13 @@ fn check_case(
     cases: &Cases,
     at: usize,
     left: usize,
-    atom: &ProofAtom,
+    atom: &Atom,
     path: &mut Path,
 ) -> Result<Option<Reason>, NoMemory>
     requires fit { CasesFit (cases_of cases.now) path.old }
     requires clear { IsClear path.old }
     requires left { left < length cases.now.left.now }
-    ensures found { IfOk result (λ found. (types : List Row) (cells : List Cell) (E : Definitions) (gs : List Goal) (g : Goal) (line : ℕ) (ws : List HeadAtom) → Meets types cells E gs g (cases_of cases.now) → wrong_cases E gs g line ((left + 1, atom_of atom.now) ∷ ws) (drop at g.cases) ≡ wrong_after line found (wrong_cases E gs g (line + 1) ws (drop (at + 1) g.cases))) }
+    ensures found { IfOk result (λ found. (types : List Row) (cells : List Cell) (E : Definitions) (gs : List Goal) (g : Goal) (line : ℕ) (ws : List HeadAtom) → Meets types cells E gs g (cases_of cases.now) → wrong_cases E gs g line ((left + 1, atom.now) ∷ ws) (drop at g.cases) ≡ wrong_after line found (wrong_cases E gs g (line + 1) ws (drop (at + 1) g.cases))) }
     ensures within { IfOk result (λ found. IfNone found (at < length cases.now.cases.now)) }
     ensures clear { IfOk result (λ found. IfNone found (IsClear path.new)) }
     ensures keeps { IfOk result (λ found. IfNone found (KeepsRoom path.old path.new)) }
@@ -142,9 +142,9 @@ fn check_case(
 }
 
 /// Whether the case is that of this left head, by its position, and this atom.
-fn is_wanted(case: &ReadCase, left: usize, atom: &ProofAtom) -> bool
+fn is_wanted(case: &ReadCase, left: usize, atom: &Atom) -> bool
     requires { left + 1 < 2 ^ 64 }
-    ensures { result ≡ (nat_eq case.now.head (left + 1) && same_atom (atom_of case.now.atom) (atom_of atom.now)) }
+    ensures { result ≡ (nat_eq case.now.head (left + 1) && same_atom case.now.atom atom.now) }
 {
     case.head == left as u64 + 1 && are_same(&case.atom, atom)
 }

@@ -7,7 +7,9 @@ ghost use Rattle.xd_syntax.specs.Kept.{program_tree};
 ghost use Rattle.xd_syntax.specs.Program.{names_of};
 ghost use Rattle.xd_syntax.specs.Table.{Row};
 ghost use Rattle.xd_syntax.specs.Tree.{Definitions};
-ghost use Rattle.xd_meaning.specs.Consistent.{Goal, numbered, wanted};
+ghost use Rattle.xd_meaning.specs.Consistent.{Goal, right_heads};
+ghost use Rattle.xd_meaning.specs.Heads as laws;
+ghost use Rattle.xd_rules.specs.Rules.{numbered, wanted};
 ghost use Rattle.xd_meaning.specs.Breach.{Lined, empty_lines};
 ghost use Rattle.xd_laws.proofs.FirstWrong.{first_wrong, wrong_cases, wrong_goal};
 ghost use Rattle.xd_moves.specs.Cells.{Cell};
@@ -156,7 +158,7 @@ fn check_cases_of(
     requires fits { GoalFits (sheet_of sheet.now) goal.now heads.now path.old }
     requires lines { line + length goal.now.cases.items < 2 ^ 64 }
     requires clear { IsClear path.old }
-    ensures found { IfOk result (λ found. (types : List Row) (cells : List Cell) (E : Definitions) (gs : List Goal) (g : Goal) → Stands types cells gs (sheet_of sheet.now) → IsGoalAt types goal.now g → AreGoalHeads types cells E goal.now heads.now → option_map breach_of found ≡ wrong_cases E gs g line (wanted E g) g.cases) }
+    ensures found { IfOk result (λ found. (types : List Row) (cells : List Cell) (E : Definitions) (gs : List Goal) (g : Goal) → Stands types cells gs (sheet_of sheet.now) → IsGoalAt types goal.now g → AreGoalHeads types cells E goal.now heads.now → option_map breach_of found ≡ wrong_cases E gs g line (wanted (laws.heads E g.left) (right_heads E g)) g.cases) }
     ensures clear { IfOk result (λ found. IfNone found (IsClear path.new)) }
 {
     let contents = content_numbers(alloc, &heads.rights)?;

@@ -7,7 +7,7 @@ ghost use Rattle.xd_syntax.specs.Kept.{AddsTypes, program_tree};
 ghost use Rattle.xd_syntax.specs.Program.{names_of};
 ghost use Rattle.xd_syntax.specs.ShallowTables.{IsShallow};
 ghost use Rattle.xd_meaning.specs.Breach.{Lined, goals_of};
-ghost use Rattle.xd_meaning.specs.Consistent.{Claim, IsConsistent};
+ghost use Rattle.xd_meaning.specs.Consistent.{ClaimHolds, IsConsistent};
 ghost use Rattle.xd_proof.specs.Goals.{AreGoalsAt, GoalsBelong};
 ghost use Rattle.xd_proof_check.specs.GoalWalk.{breach_of, verdict_of};
 ghost use Rattle.xd_proof_check.specs.Reasons.{IsVerdict};
@@ -39,7 +39,7 @@ pub fn accepts(
     ensures accepted { IfOk result (λ verdict. (goals : List Lined) → AreGoalsAt sound.old.types proof.now goals → (verdict ≡ verdicts.Accepted) ↔ IsConsistent (names_of (program_tree sound.old)) (goals_of goals)) }
     ensures verdict { IfOk result (λ verdict. (goals : List Lined) → AreGoalsAt sound.old.types proof.now goals → IsVerdict (names_of (program_tree sound.old)) goals verdict) }
     // the inclusions that it claims hold
-    ensures holds { IfOk result (λ verdict. (goals : List Lined) → AreGoalsAt sound.old.types proof.now goals → verdict ≡ verdicts.Accepted → AllByRecursion (Claim (names_of (program_tree sound.old))) (goals_of goals)) }
+    ensures holds { IfOk result (λ verdict. (goals : List Lined) → AreGoalsAt sound.old.types proof.now goals → verdict ≡ verdicts.Accepted → AllByRecursion (ClaimHolds (names_of (program_tree sound.old))) (goals_of goals)) }
 
     // after `NoMemory` too
     ensures adds { AddsTypes sound.old sound.new }

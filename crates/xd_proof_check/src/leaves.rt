@@ -3,7 +3,7 @@
 ghost use Rattle.std.specs.Prelude.{◌≡◌, ◌<◌, ℕ, List, length};
 ghost use Rattle.std.specs.List.{AllByRecursion, list_all};
 ghost use Rattle.std.specs.Option.{option_copied};
-ghost use Rattle.xd_meaning.specs.Consistent.{numbered};
+ghost use Rattle.xd_rules.specs.Rules.{numbered};
 ghost use Rattle.xd_proof_check.specs.Leaves.{GoalsBelong, is_among, leaf_numbered};
 ghost use Rattle.xd_moves.specs.Codes.{number_at};
 ghost use Rattle.xd_proof_check.specs.Paths.{AreCounts};

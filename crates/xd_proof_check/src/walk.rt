@@ -3,12 +3,13 @@
 ghost use Rattle.std.specs.Prelude.{◌≡◌, ◌+◌, ◌-◌, ◌<◌, ◌≤◌, ◌∷◌, ◌++◌, [], ℕ, List, true, false, length, drop, IfOk, OnOk, MatchOption};
 ghost use Rattle.std.specs.List.{AllByRecursion};
 ghost use Rattle.std.specs.Option.{IfNone, option_map};
-ghost use Rattle.xd_meaning.specs.Consistent.{ChoiceTree, Goal};
-ghost use Rattle.xd_meaning.specs.Heads as laws;
+ghost use Rattle.xd_rules.specs.Rules.{ChoiceTree};
+ghost use Rattle.xd_meaning.specs.Consistent.{Goal};
+ghost use Rattle.xd_syntax.specs.Tree.{Tree};
+ghost use Rattle.xd_rules.specs.Heads.{Head};
 ghost use Rattle.xd_laws.proofs.FirstWrong.{wrong_tree};
 ghost use Rattle.xd_proof.specs.Steps.{steps_of};
 ghost use Rattle.xd_proof.specs.declared.steps.Step.TheVariants as steps;
-ghost use Rattle.xd_proof.specs.Cases.{atom_of};
 ghost use Rattle.xd_syntax.specs.Table.{Row};
 ghost use Rattle.xd_moves.specs.Cells.{Cell};
 ghost use Rattle.xd_proof_check.specs.Atoms.{kinds_of};
@@ -23,7 +24,7 @@ use crate::path::{Path, Turn};
 use crate::verdict::Reason;
 use xd_doc::NoMemory;
 use xd_heads::NumberedHead;
-use xd_proof::{ProofAtom, ProofGoal, Step};
+use xd_proof::{Atom, ProofGoal, Step};
 
 /// What the steps of a case are looked at in.
 #[derive(Clone, Copy)]
@@ -31,7 +32,7 @@ pub(crate) struct Setting<'a> {
     pub goals: &'a [ProofGoal],
     /// The number of each type of the program.
     pub numbers: &'a [usize],
-    pub atom: &'a ProofAtom,
+    pub atom: &'a Atom,
     pub rights: &'a [NumberedHead],
     /// The numbers of the contents and of the rests of these heads.
     pub contents: &'a [usize],
@@ -53,15 +54,15 @@ pub(crate) fn check_tree(
 ) -> Result<Option<Reason>, NoMemory>
     requires setting { IsSetting (setting_of setting.now) path.old }
     requires clear { IsClear path.old }
-    ensures found { IfOk result (λ found. (types : List Row) (cells : List Cell) (gs : List Goal) (left : laws.Head) (hs : List laws.Head) (t : ChoiceTree) → Corresponds types cells (setting_of setting.now) left hs gs → steps.now ≡ steps_of t → option_map reason_of found ≡ wrong_tree gs (setting_of setting.now).atom left hs t) }
+    ensures found { IfOk result (λ found. (types : List Row) (cells : List Cell) (gs : List Goal) (left : Head Tree) (hs : List (Head Tree)) (t : ChoiceTree) → Corresponds types cells (setting_of setting.now) left hs gs → steps.now ≡ steps_of t → option_map reason_of found ≡ wrong_tree gs (setting_of setting.now).atom left hs t) }
     ensures clear { IfOk result (λ found. (t : ChoiceTree) → steps.now ≡ steps_of t → IfNone found (IsClear path.new)) }
     ensures keeps { IfOk result (λ found. IfNone found (KeepsRoom path.old path.new)) }
 {
     match setting.atom {
-        ProofAtom::Label(_) => walk(setting, steps, path),
-        ProofAtom::OtherLabel => walk(setting, steps, path),
-        ProofAtom::Text(_) => text_leaf(setting, steps, path),
-        ProofAtom::OtherText => text_leaf(setting, steps, path),
+        Atom::Label(_) => walk(setting, steps, path),
+        Atom::OtherLabel => walk(setting, steps, path),
+        Atom::Text(_) => text_leaf(setting, steps, path),
+        Atom::OtherText => text_leaf(setting, steps, path),
     }
 }
 

@@ -10,11 +10,10 @@ use Rattle.xd_auto.specs.declared.auto.State.{State}
 use Rattle.xd_auto.specs.declared.auto.LabelMove.{LabelMove}
 use Rattle.xd_auto.specs.declared.auto.TextMove.{TextMove}
 use Rattle.xd_auto.specs.Automaton.{Automaton, moves_at}
-use Rattle.xd_meaning.specs.Heads.{Head, heads}
-use Rattle.xd_meaning.specs.Consistent.{numbered}
-use Rattle.xd_rules.specs.Heads as table
-use Rattle.xd_rules.specs.Rules as rules
-use Rattle.xd_rules.specs.Moves.{heads_of, label_head, text_head}
+use Rattle.xd_rules.specs.Heads.{Head, element_in, text_in}
+use Rattle.xd_meaning.specs.Heads.{heads}
+use Rattle.xd_rules.specs.Rules.{numbered}
+use Rattle.xd_state_heads.specs.Moves.{heads_of, label_head, text_head}
 use Rattle.xd_heads.specs.Mirrors.{AreHeadMoves, no_head, element_head}
 use Rattle.xd_heads.specs.Mirrors as mirrors
 use Rattle.xd_proof_make.specs.Written.{AreTypes, IsAt, Renumbers}
@@ -50,19 +49,19 @@ numbered_there front back all x n e q = rw (e, q) (numbered_behind front x back)
 
 -- ---- a state's heads
 
-module _ (C : State → Option Tree) (all : List Head) where
-  abbrev pub Stands : List Head → List Head → List Head → ℕ → Type 0
+module _ (C : State → Option Tree) (all : List (Head Tree)) where
+  abbrev pub Stands : List (Head Tree) → List (Head Tree) → List (Head Tree) → ℕ → Type 0
   Stands front hs back n = (all ≡ front ++ (hs ++ back)) × (n ≡ length front + 1)
 
-  stands_next : (front : List Head) (h : Head) (hs back : List Head) (n : ℕ) → Stands front (h ∷ hs) back n → Stands (front ++ h ∷ []) hs back (n + 1)
+  stands_next : (front : List (Head Tree)) (h : Head Tree) (hs back : List (Head Tree)) (n : ℕ) → Stands front (h ∷ hs) back n → Stands (front ++ h ∷ []) hs back (n + 1)
   stands_next front h hs back n s = (s.0 ∙ sym (append_assoc front (h ∷ []) (hs ++ back)), omega (arith, s.1, length-push front h))
     where
-      length-push : (xs : List Head) (x : Head) → length (xs ++ x ∷ []) ≡ length xs + 1
+      length-push : (xs : List (Head Tree)) (x : Head Tree) → length (xs ++ x ∷ []) ≡ length xs + 1
       length-push [] x = refl
       length-push (y ∷ xs) x = let i = length-push xs x in omega arith
 
   -- each move stands at the number of its head
-  pub elements_zip : {hs : List Head} {ls : List LabelMove} {ts : List TextMove} → AreHeadMoves C hs ls ts → (front back : List Head) (n : ℕ) → Stands front hs back n
+  pub elements_zip : {hs : List (Head Tree)} {ls : List LabelMove} {ts : List TextMove} → AreHeadMoves C hs ls ts → (front back : List (Head Tree)) (n : ℕ) → Stands front hs back n
       → AllZip (IsAt C all) (numbers_of false n (sorts_of hs)) (map label_head ls)
   elements_zip no_head front back n s = tt
   elements_zip (element_head {h} {hs} {l} {ls} {ts} k c r m) front back n s =
@@ -75,7 +74,7 @@ module _ (C : State → Option Tree) (all : List Head) where
       let b : is_text h.kind ≡ true = ap is_text k in
       subst (λ (x : Bool). AllZip (IsAt C all) (cond (not x) (n ∷ numbers_of false (n + 1) (sorts_of hs)) (numbers_of false (n + 1) (sorts_of hs))) (map label_head ls)) (sym b) i
 
-  pub texts_zip : {hs : List Head} {ls : List LabelMove} {ts : List TextMove} → AreHeadMoves C hs ls ts → (front back : List Head) (n : ℕ) → Stands front hs back n
+  pub texts_zip : {hs : List (Head Tree)} {ls : List LabelMove} {ts : List TextMove} → AreHeadMoves C hs ls ts → (front back : List (Head Tree)) (n : ℕ) → Stands front hs back n
       → AllZip (IsAt C all) (numbers_of true n (sorts_of hs)) (map text_head ts)
   texts_zip no_head front back n s = tt
   texts_zip (element_head {h} {hs} {l} {ls} {ts} k c r m) front back n s =
@@ -88,19 +87,19 @@ module _ (C : State → Option Tree) (all : List Head) where
       let at : IsAt C all n (text_head t) = record {
         head = h;
         stands = numbered_there front (hs ++ back) all h n s.0 s.1;
-        same = record { kind = k; content = λ w q. absurd (let e : table.text_in t.words ≡ table.element_in w = q in cc); rest = r };
+        same = record { kind = k; content = λ w q. absurd (let e : text_in t.words ≡ element_in w = q in cc); rest = r };
       } in
       subst (λ (x : Bool). AllZip (IsAt C all) (cond x (n ∷ numbers_of true (n + 1) (sorts_of hs)) (numbers_of true (n + 1) (sorts_of hs))) (text_head t ∷ map text_head ts)) (sym b) (at, i)
 
-  pub state_zip : {hs : List Head} {ls : List LabelMove} {ts : List TextMove} → AreHeadMoves C hs ls ts → (front back : List Head) (n : ℕ) → Stands front hs back n
+  pub state_zip : {hs : List (Head Tree)} {ls : List LabelMove} {ts : List TextMove} → AreHeadMoves C hs ls ts → (front back : List (Head Tree)) (n : ℕ) → Stands front hs back n
       → AllZip (IsAt C all) (places_of n (sorts_of hs)) (map label_head ls ++ map text_head ts)
   state_zip {hs} {ls} {ts} m front back n s =
       zip_append (IsAt C all) (numbers_of false n (sorts_of hs)) (numbers_of true n (sorts_of hs)) (map label_head ls) (map text_head ts) (elements_zip m front back n s) (texts_zip m front back n s)
 
 -- those of several states
 module _ (E : Definitions) (a : Automaton) (C : State → Option Tree)
-    (moves : (s : State) (T : Tree) → C s ≡ Some T → AreHeadMoves C (heads E T) (moves_at a s).labels (moves_at a s).texts) (all : List Head) where
-  states_zip : (ss : List State) (Ts : List Tree) → AreTypes C ss Ts → (front : List Head) (n : ℕ) → all ≡ front ++ flat_map (heads E) Ts → n ≡ length front + 1
+    (moves : (s : State) (T : Tree) → C s ≡ Some T → AreHeadMoves C (heads E T) (moves_at a s).labels (moves_at a s).texts) (all : List (Head Tree)) where
+  states_zip : (ss : List State) (Ts : List Tree) → AreTypes C ss Ts → (front : List (Head Tree)) (n : ℕ) → all ≡ front ++ flat_map (heads E) Ts → n ≡ length front + 1
       → AllZip (IsAt C all) (all_places n (map (λ T. sorts_of (heads E T)) Ts)) (flat_map (heads_of a) ss)
   states_zip [] [] z front n e q = tt
   states_zip [] (T ∷ Ts) z front n e q = absurd z
@@ -111,11 +110,11 @@ module _ (E : Definitions) (a : Automaton) (C : State → Option Tree)
       (let l = length-sorts (heads E T) in let m = length-both front (heads E T) in omega arith) in
       zip_append (IsAt C all) (places_of n (sorts_of (heads E T))) (all_places (n + length (sorts_of (heads E T))) (map (λ U. sorts_of (heads E U)) Ts)) (heads_of a s) (flat_map (heads_of a) ss) here more
     where
-      length-sorts : (hs : List Head) → length (sorts_of hs) ≡ length hs
+      length-sorts : (hs : List (Head Tree)) → length (sorts_of hs) ≡ length hs
       length-sorts [] = refl
       length-sorts (h ∷ hs) = ap suc (length-sorts hs)
 
-      length-both : (xs ys : List Head) → length (xs ++ ys) ≡ length xs + length ys
+      length-both : (xs ys : List (Head Tree)) → length (xs ++ ys) ≡ length xs + length ys
       length-both [] ys = omega arith
       length-both (x ∷ xs) ys = let i = length-both xs ys in omega arith
 
@@ -223,19 +222,19 @@ all_distinct n (ss ∷ sss) =
 
 -- ---- new numbers
 
-pub renumbers_by : (C : State → Option Tree) (ps : List ℕ) (hs : List (table.Head State)) (ks : List Head) → AllZip (IsAt C ks) ps hs → Distinct ps → Renumbers C (place_in ps) hs ks
+pub renumbers_by : (C : State → Option Tree) (ps : List ℕ) (hs : List (Head State)) (ks : List (Head Tree)) → AllZip (IsAt C ks) ps hs → Distinct ps → Renumbers C (place_in ps) hs ks
 renumbers_by C ps hs ks z d = record { same = same; once = once }
   where
-    same : (j : ℕ) (h : table.Head State) → rules.head_number hs j ≡ Some h → IsAt C ks (place_in ps j) h
+    same : (j : ℕ) (h : Head State) → numbered hs j ≡ Some h → IsAt C ks (place_in ps j) h
     same zero h e = absurd (cc)
     same (suc i) h e =
         let x = zip_at (IsAt C ks) ps hs i h z e in
         subst (λ (p : ℕ). IsAt C ks p h) (sym (get_or_from_slice_get ps i x.0 0 x.1)) x.2
 
-    at : (i : ℕ) (h : table.Head State) → slice_get hs i ≡ Some h → slice_get ps i ≡ Some (get_or ps i 0)
+    at : (i : ℕ) (h : Head State) → slice_get hs i ≡ Some h → slice_get ps i ≡ Some (get_or ps i 0)
     at i h e = let x = zip_at (IsAt C ks) ps hs i h z e in x.1 ∙ ap Some (sym (get_or_from_slice_get ps i x.0 0 x.1))
 
-    once : (i j : ℕ) (g h : table.Head State) → rules.head_number hs i ≡ Some g → rules.head_number hs j ≡ Some h → place_in ps i ≡ place_in ps j → i ≡ j
+    once : (i j : ℕ) (g h : Head State) → numbered hs i ≡ Some g → numbered hs j ≡ Some h → place_in ps i ≡ place_in ps j → i ≡ j
     once zero j g h e f q = absurd (cc)
     once (suc i) zero g h e f q = absurd (cc)
     once (suc i) (suc j) g h e f q = ap suc (distinct_at ps d i j (get_or ps j 0) (at i g e ∙ ap Some q) (at j h f))
@@ -318,7 +317,7 @@ places_of_types E n (T ∷ Ts) =
     let m = n + length (sorts_of (heads E T)) in
     let i = places_of_types E m Ts in
     let j = places_count n (sorts_of (heads E T)) in
-    let k = length-map (heads E T) (λ (h : Head). is_text h.kind) in
+    let k = length-map (heads E T) (λ (h : Head Tree). is_text h.kind) in
     let l = length_both (places_of n (sorts_of (heads E T))) (all_places m (map (λ U. sorts_of (heads E U)) Ts)) in
     let r = length_both (heads E T) (flat_map (heads E) Ts) in
     omega arith

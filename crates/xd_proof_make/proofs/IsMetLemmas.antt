@@ -4,7 +4,8 @@ use Rattle.std.specs.List.{AllByRecursion, slice_get}
 use Rattle.std.proofs.lemmas.Bool.{cases_lt, cases_eq}
 use Rattle.std.proofs.lemmas.Option.{slice_get_within, slice_get-get_or}
 use Rattle.xd_doc.proofs.Lists.{there_front, last_at, all_more as all_map, all_append, all_taken, all_parts}
-use Rattle.xd_rules.specs.Rules.{ChoiceTree, ContentLeaf, RestLeaf, SplitOn, AllLeaves}
+use Rattle.xd_rules.specs.Rules.{ChoiceTree, settles_content, settles_rest, split_on}
+use Rattle.xd_rules.specs.Meaning.{AllLeaves}
 use Rattle.xd_rules.proofs.Members.{get-one_of}
 use Rattle.xd_goals.specs.Rows.{TableView, row_at}
 use Rattle.xd_goals.specs.Trees.{StandsAt}
@@ -114,14 +115,14 @@ steps-kept P Q f steps h = all_map (IsStepTo P) (IsStepTo Q) steps one h
     one (Split j) k = tt
 
 pub tree-steps : (P : ℕ → Type 0) (tree : ChoiceTree) → AllLeaves P tree → AllByRecursion (IsStepTo P) (table_steps tree)
-tree-steps P (ContentLeaf g) h = (h, tt)
-tree-steps P (RestLeaf g) h = (h, tt)
-tree-steps P (SplitOn j a b) h = (tt, all_append (IsStepTo P) (table_steps a) (table_steps b) (tree-steps P a h.0) (tree-steps P b h.1))
+tree-steps P (settles_content g) h = (h, tt)
+tree-steps P (settles_rest g) h = (h, tt)
+tree-steps P (split_on j a b) h = (tt, all_append (IsStepTo P) (table_steps a) (table_steps b) (tree-steps P a h.0) (tree-steps P b h.1))
 
 pub steps-tree : (P : ℕ → Type 0) (tree : ChoiceTree) → AllByRecursion (IsStepTo P) (table_steps tree) → AllLeaves P tree
-steps-tree P (ContentLeaf g) h = h.0
-steps-tree P (RestLeaf g) h = h.0
-steps-tree P (SplitOn j a b) h = let i = all_parts (IsStepTo P) (table_steps a) (table_steps b) h.1 in (steps-tree P a i.0, steps-tree P b i.1)
+steps-tree P (settles_content g) h = h.0
+steps-tree P (settles_rest g) h = h.0
+steps-tree P (split_on j a b) h = let i = all_parts (IsStepTo P) (table_steps a) (table_steps b) h.1 in (steps-tree P a i.0, steps-tree P b i.1)
 
 -- the tree that stands at a choice's root, by its steps
 pub leads-steps : (nodes : List ChoiceNode) (P : ℕ → Type 0) (k : Choice) (steps : List Step) → ((tree : ChoiceTree) → StandsAt nodes k.root tree → steps ≡ table_steps tree) → AllByRecursion (IsStepTo P) steps → LeadsTo nodes P k

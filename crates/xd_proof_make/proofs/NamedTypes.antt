@@ -14,7 +14,8 @@ use Rattle.xd_syntax.specs.NameFaults.{duplicate_names, fault_if, function_fault
 use Rattle.xd_syntax.specs.RecursionFaults.{IsSound}
 use Rattle.xd_syntax.specs.declared.fault.Fault.{Fault}
 use Rattle.xd_syntax.specs.declared.fault.FaultKind.TheVariants.{UnknownType}
-use Rattle.xd_meaning.specs.Heads.{Head, pieces, followed_by, with_behind, heads_by, heads_of_definition, heads_of_name, heads}
+use Rattle.xd_rules.specs.Heads.{Head}
+use Rattle.xd_meaning.specs.Heads.{pieces, followed_by, with_behind, heads_by, heads_of_definition, heads_of_name, heads}
 use Rattle.xd_laws.proofs.SoundGuarded.{in_order_none}
 use Rattle.xd_continuations.proofs.MoveLemmas.{all_cond, all_map}
 
@@ -24,7 +25,7 @@ module _ (known : List (List ℕ)) where
   abbrev IsNamed : Tree → Type 0
   IsNamed T = uses_only known T ≡ true
 
-  abbrev IsNamedHead : Head → Type 0
+  abbrev IsNamedHead : Head Tree → Type 0
   IsNamedHead h = IsNamed h.content × IsNamed h.rest
 
   both_named : (T U : Tree) → (uses_only known T && uses_only known U) ≡ true → IsNamed T × IsNamed U
@@ -53,11 +54,11 @@ module _ (known : List (List ℕ)) where
 
   -- ---- heads
 
-  behind_named : (R : Tree) → IsNamed R → (hs : List Head) → AllByRecursion IsNamedHead hs → AllByRecursion IsNamedHead (map (with_behind R) hs)
+  behind_named : (R : Tree) → IsNamed R → (hs : List (Head Tree)) → AllByRecursion IsNamedHead hs → AllByRecursion IsNamedHead (map (with_behind R) hs)
   behind_named R r hs a = all_map IsNamedHead IsNamedHead (with_behind R) hs (λ h n. (n.0, followed_named h.rest R n.1 r)) a
 
   module _ (Z : Tree → Bool) where
-    module _ (N : List ℕ → List Head) (names : (x : List ℕ) → AllByRecursion IsNamedHead (N x)) where
+    module _ (N : List ℕ → List (Head Tree)) (names : (x : List ℕ) → AllByRecursion IsNamedHead (N x)) where
       heads_named : (T : Tree) → IsNamed T → AllByRecursion IsNamedHead (heads_by Z N T)
       heads_named Empty e = tt
       heads_named Text e = ((refl, refl), tt)
@@ -136,7 +137,7 @@ definitions_named P s =
 
 -- and so do the heads of a type that does
 pub program_heads_named : (P : ProgramTree) → IsSound P → (T : Tree) → uses_only (known_types P) T ≡ true
-    → AllByRecursion (λ (h : Head). (uses_only (known_types P) h.content ≡ true) × (uses_only (known_types P) h.rest ≡ true)) (heads (names_of P) T)
+    → AllByRecursion (λ (h : Head Tree). (uses_only (known_types P) h.content ≡ true) × (uses_only (known_types P) h.rest ≡ true)) (heads (names_of P) T)
 unfolding heads
 program_heads_named P s T e =
     let E : Definitions = names_of P in

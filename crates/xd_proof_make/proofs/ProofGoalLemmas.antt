@@ -12,13 +12,13 @@ use Rattle.xd_syntax.specs.Kept.{ProgramTable, program_tree}
 use Rattle.xd_syntax.specs.declared.types.TypeId.{TypeId}
 use Rattle.xd_auto.specs.declared.auto.State.{State}
 use Rattle.xd_auto.specs.Automaton.{Automaton, moves_at}
-use Rattle.xd_meaning.specs.Heads.{Head, heads}
-use Rattle.xd_meaning.specs.Consistent.{Goal, Named, EmptyRule, numbered, atoms_from}
-use Rattle.xd_rules.specs.Heads as table
-use Rattle.xd_rules.specs.Rules as rules
+use Rattle.xd_rules.specs.Heads.{Head, Named, named_in}
+use Rattle.xd_meaning.specs.Heads.{heads}
+use Rattle.xd_meaning.specs.Consistent.{Goal, EmptyRule}
+use Rattle.xd_rules.specs.Rules.{numbered, atoms_from, ChoiceTree, Claim, LabelTree, LeafRule, Sides, TextTree, TreeRule, matching, no_sides, on_content, on_rest, settles_content, settles_rest, split_on}
 use Rattle.xd_rules.specs.Members.{IsOneOf}
 use Rattle.xd_rules.proofs.Members.{one_of-append_left, one_of-append_right}
-use Rattle.xd_rules.specs.Moves.{heads_of, is_last_in, label_head, text_head}
+use Rattle.xd_state_heads.specs.Moves.{heads_of, is_last_in, label_head, text_head}
 use Rattle.xd_goals.specs.Rows.{GoalRow, TableView, row_at, claim_of, claim_at, choice_key}
 use Rattle.xd_goals.specs.Standing.{IsBegun}
 use Rattle.xd_goals.specs.Truth as goals
@@ -27,9 +27,10 @@ use Rattle.xd_goals.specs.declared.table.ChoiceNode.{ChoiceNode}
 use Rattle.xd_goals.proofs.GrowsByLemmas.{claim_within}
 use Rattle.xd_heads.specs.CellsView.{CellsView}
 use Rattle.xd_heads.specs.Mirrors.{Mirrors, continuation_of}
-use Rattle.xd_rules.specs.declared.atom.Atom.{Atom as TableAtom}
+use Rattle.xd_rules.specs.declared.atom.Atom.{Atom}
+use Rattle.xd_rules.specs.declared.atom.Atom.TheVariants.{Label, OtherLabel, Text, OtherText}
 use Rattle.xd_proof.specs.declared.proof.ProofGoal.{ProofGoal}
-use Rattle.xd_proof_make.specs.Written.{AreTypes, IsWritten, Renumbers, written_names}
+use Rattle.xd_proof_make.specs.Written.{AreTypes, IsWritten, Renumbers}
 use Rattle.xd_proof_make.specs.Places.{is_text, sorts_of, all_places, place_in, new_numbers}
 use Rattle.xd_proof_make.specs.Met.{number_in}
 use Rattle.xd_proof_make.specs.Ordered.{AreOrdered, AreWrittenCases, IsWritable, SplitsWithin}
@@ -41,6 +42,7 @@ use Rattle.xd_proof_make.specs.declared.states.Known.{Known}
 use Rattle.xd_proof_make.proofs.AreHeadMovesLemmas.{places_renumber, places_heads, places_of_types, new_numbers-length}
 use Rattle.xd_proof_make.proofs.IsNamedLemmas.{names_written}
 use Rattle.xd_proof_make.proofs.CaseOrderLemmas.{cut_at, wanted_above, wanted_below, wanted-append, ordered, AreCases}
+use Rattle.xd_rules.specs.Meaning.{AllLeaves, right_heads as claim_heads}
 
 -- ---- the empty document
 
@@ -114,22 +116,25 @@ module _ (p : ProgramTable) (c : CellsView) (a : Automaton) (nodes : List Choice
   abbrev goal : Goal
   goal = record { left = x.type_; rights = r.types; empty_right = made.empty_right; cases = cases.cases }
 
-  abbrev elements_of : List (table.Head State)
+  abbrev elements_of : List (Head State)
   elements_of = map label_head (moves_at a row.left).labels
 
-  abbrev texts_of : List (table.Head State)
+  abbrev texts_of : List (Head State)
   texts_of = map text_head (moves_at a row.left).texts
 
-  keys : (map choice_key cases.front ≡ rules.wanted_cases begun.named 1 elements_of) × (map choice_key cases.back ≡ rules.wanted_cases begun.named (elements + 1) texts_of)
+  abbrev names : Named
+  names = named_in (heads_of a row.left ++ claim_heads (heads_of a) (claim_of row))
+
+  keys : (map choice_key cases.front ≡ atoms_from names 1 elements_of) × (map choice_key cases.back ≡ atoms_from names (elements + 1) texts_of)
   keys =
       let n = length-mapped label_head (moves_at a row.left).labels in
-      cut_at (elements + 1) row.choices cases.front cases.back (rules.wanted_cases begun.named 1 elements_of) (rules.wanted_cases begun.named (elements + 1) texts_of) cases.cut
-      (wanted_below begun.named (elements + 1) 1 elements_of (omega arith)) (wanted_above begun.named (elements + 1) (elements + 1) texts_of (omega arith))
-      (begun.complete ∙ wanted-append begun.named 1 (elements + 1) elements_of texts_of (omega arith))
+      cut_at (elements + 1) row.choices cases.front cases.back (atoms_from names 1 elements_of) (atoms_from names (elements + 1) texts_of) cases.cut
+      (wanted_below names (elements + 1) 1 elements_of (omega arith)) (wanted_above names (elements + 1) (elements + 1) texts_of (omega arith))
+      (begun.complete ∙ wanted-append names 1 (elements + 1) elements_of texts_of (omega arith))
 
-  in_order : AreCases C nodes places numbers begun.named row.choices (heads_of a row.left) (heads E x.type_) cases.cases (atoms_from (written_names begun.named) 1 (heads E x.type_))
+  in_order : AreCases C nodes places numbers names row.choices (heads_of a row.left) (heads E x.type_) cases.cases (atoms_from names 1 (heads E x.type_))
   in_order =
-      ordered C nodes places numbers begun.named row.choices (heads_of a row.left) (heads E x.type_) (m.moves row.left x.type_ x.continuation) 1 1 (elements + 1) cases.front cases.back cases.cases
+      ordered C nodes places numbers names row.choices (heads_of a row.left) (heads E x.type_) (m.moves row.left x.type_ x.continuation) 1 1 (elements + 1) cases.front cases.back cases.cases
       (subst (λ (ss : List Bool). AreOrdered nodes places numbers ss 1 1 (elements + 1) cases.front cases.back cases.cases) x.sorts cases.ordered)
       keys.0 keys.1
       (λ y h. subst (IsOneOf y) (sym (cases.cut).same) (one_of-append_left y cases.front cases.back h)) (λ y h. subst (IsOneOf y) (sym (cases.cut).same) (one_of-append_right y cases.front cases.back h))
@@ -140,7 +145,7 @@ module _ (p : ProgramTable) (c : CellsView) (a : Automaton) (nodes : List Choice
     left = x.continuation;
     rights = r.typed;
     empty_right = empty_written E a C m.flags row.left row.rights goal x.continuation r.typed made.empty_right empty;
-    cases = in_order.0 ∙ ap (λ (nm : Named). atoms_from nm 1 (heads E x.type_)) (sym (names_written E a C m.moves (claim_of row) goal x.continuation r.typed begun.named begun.names));
+    cases = in_order.0 ∙ ap (λ (nm : Named). atoms_from nm 1 (heads E x.type_)) (sym (names_written E a C m.moves (claim_of row) goal x.continuation r.typed));
     place = place_in places;
     renumbers = subst (λ (ps : List ℕ). Renumbers C (place_in ps) (flat_map (heads_of a) row.rights) (flat_map (heads E) r.types)) (sym (pl ∙ ap (all_places 1) r.sorts)) (places_renumber E a C m.moves row.rights r.types r.typed);
     each = in_order.1;
@@ -156,7 +161,7 @@ module _ (p : ProgramTable) (c : CellsView) (a : Automaton) (nodes : List Choice
     fit = record { fits = (let n = zip_long (IsIdOf states) (made.rights).items row.rights ids in omega (arith, line, few_rights, few_cases, n)) };
     small = record {
       rights = subst (λ (n : ℕ). n < 10 ^ 18) (zip_long (λ (s : State) (T : Tree). C s ≡ Some T) row.rights r.types r.typed) few_rights;
-      on_left = subst (λ (n : ℕ). n < 10 ^ 18) (ap length x.sorts ∙ length-mapped (λ (h : Head). is_text h.kind) (heads E x.type_)) x.few;
+      on_left = subst (λ (n : ℕ). n < 10 ^ 18) (ap length x.sorts ∙ length-mapped (λ (h : Head Tree). is_text h.kind) (heads E x.type_)) x.few;
       on_right = subst (λ (n : ℕ). n < 10 ^ 18) (ap length (pl ∙ ap (all_places 1) r.sorts) ∙ places_of_types E 1 r.types) few_places;
       atoms = cases.atoms;
     };
@@ -164,37 +169,37 @@ module _ (p : ProgramTable) (c : CellsView) (a : Automaton) (nodes : List Choice
 
 -- ---- choices that can be written
 
-leaf_within : (rows : List GoalRow) (g : ℕ) (left : State) (allowed : List State) → rules.LeafKeeps (claim_at rows) g left allowed → g < length rows
-leaf_within rows g left allowed k = (claim_within rows g k.claim k.found).0
+module _ (rows : List GoalRow) (h : Head State) (atom : Atom) (rs : List (Head State)) where
+  leaf_within : (part : Head State → State) (side : List ℕ) (g : ℕ) → LeafRule part (claim_at rows) h rs side g → g < length rows
+  leaf_within part side g k = (claim_within rows g k.claim k.stands).0
 
-tree_leaves : (rows : List GoalRow) (h : table.Head State) (atom : TableAtom) (rs : List (table.Head State)) (tree : rules.ChoiceTree) (cs ss : List State) (seen : List ℕ) → rules.TreeKeeps (claim_at rows) h atom rs tree cs ss seen → rules.AllLeaves (λ g. g < length rows) tree
-tree_leaves rows h atom rs (rules.ContentLeaf g) cs ss seen k = leaf_within rows g h.content cs k
-tree_leaves rows h atom rs (rules.RestLeaf g) cs ss seen k = leaf_within rows g h.rest ss k
-tree_leaves rows h atom rs (rules.SplitOn j t u) cs ss seen k = (tree_leaves rows h atom rs t ((k.0).content ∷ cs) ss (j ∷ seen) k.4, tree_leaves rows h atom rs u cs ((k.0).rest ∷ ss) (j ∷ seen) k.5)
+  tree_writable : (tree : ChoiceTree) (s : Sides) → LabelTree (claim_at rows) atom h rs s tree → AllLeaves (λ g. g < length rows) tree × SplitsWithin (length rs) tree
+  tree_writable (settles_content g) s k = (leaf_within (λ x. x.content) s.content g k, tt)
+  tree_writable (settles_rest g) s k = (leaf_within (λ x. x.rest) s.rest g k, tt)
+  tree_writable (split_on j t u) s k =
+      let n = head_within rs j (k.0).head (k.0).stands in
+      let x = tree_writable t (on_content j s) k.1 in
+      let y = tree_writable u (on_rest j s) k.2 in
+      ((x.0, y.0), (n.0, n.1, x.1, y.1))
 
-tree_splits : (rows : List GoalRow) (h : table.Head State) (atom : TableAtom) (rs : List (table.Head State)) (tree : rules.ChoiceTree) (cs ss : List State) (seen : List ℕ) → rules.TreeKeeps (claim_at rows) h atom rs tree cs ss seen → SplitsWithin (length rs) tree
-tree_splits rows h atom rs (rules.ContentLeaf g) cs ss seen k = tt
-tree_splits rows h atom rs (rules.RestLeaf g) cs ss seen k = tt
-tree_splits rows h atom rs (rules.SplitOn j t u) cs ss seen k =
-    let n = head_within rs j k.0 k.1 in
-    (n.0, n.1, tree_splits rows h atom rs t ((k.0).content ∷ cs) ss (j ∷ seen) k.4, tree_splits rows h atom rs u cs ((k.0).rest ∷ ss) (j ∷ seen) k.5)
+  text_writable : (tree : ChoiceTree) → TextTree (claim_at rows) atom h rs tree → AllLeaves (λ g. g < length rows) tree × SplitsWithin (length rs) tree
+  text_writable (settles_content g) k = absurd k
+  text_writable (split_on j t u) k = absurd k
+  text_writable (settles_rest g) k = (leaf_within (λ x. x.rest) (matching atom 1 rs) g k, tt)
 
-case_writable : (rows : List GoalRow) (h : table.Head State) (atom : TableAtom) (rs : List (table.Head State)) (tree : rules.ChoiceTree) → rules.CaseKeeps (claim_at rows) h atom rs tree
-    → rules.AllLeaves (λ g. g < length rows) tree × SplitsWithin (length rs) tree
-case_writable rows h atom rs tree k = go (table.is_text_atom atom) tree k
-  where
-    go : (b : Bool) (t : rules.ChoiceTree) → rules.KeepsBySort b (claim_at rows) h atom rs t → rules.AllLeaves (λ g. g < length rows) t × SplitsWithin (length rs) t
-    go false t x = (tree_leaves rows h atom rs t [] [] [] x, tree_splits rows h atom rs t [] [] [] x)
-    go true (rules.ContentLeaf g) x = absurd x
-    go true (rules.SplitOn j t u) x = absurd x
-    go true (rules.RestLeaf g) x = (leaf_within rows g h.rest (rules.matching_rests atom rs) x, tt)
+case_writable : (rows : List GoalRow) (h : Head State) (atom : Atom) (rs : List (Head State)) (tree : ChoiceTree) → TreeRule (claim_at rows) atom h rs tree
+    → AllLeaves (λ g. g < length rows) tree × SplitsWithin (length rs) tree
+case_writable rows h (Label l) rs tree k = tree_writable rows h (Label l) rs tree no_sides k
+case_writable rows h OtherLabel rs tree k = tree_writable rows h OtherLabel rs tree no_sides k
+case_writable rows h (Text t) rs tree k = text_writable rows h (Text t) rs tree k
+case_writable rows h OtherText rs tree k = text_writable rows h OtherText rs tree k
 
-pub all_writable : (a : Automaton) (t : TableView) (n : ℕ) (c : rules.Claim State) (ks : List Choice) → n ≡ length t.rows → AllByRecursion (goals.KeepsRules a t c) ks → AllByRecursion (IsWritable t.nodes n (length (rules.right_heads (heads_of a) c))) ks
+pub all_writable : (a : Automaton) (t : TableView) (n : ℕ) (c : Claim State) (ks : List Choice) → n ≡ length t.rows → AllByRecursion (goals.KeepsRules a t c) ks → AllByRecursion (IsWritable t.nodes n (length (claim_heads (heads_of a) c))) ks
 all_writable a t n c [] e h = tt
 all_writable a t n c (k ∷ ks) e h =
     let x = h.0 in
-    let w = case_writable t.rows x.head k.atom (rules.right_heads (heads_of a) c) x.tree x.keeps in
-    (record { tree = x.tree; stands = x.stands; leaves = subst (λ (i : ℕ). rules.AllLeaves (λ g. g < i) x.tree) (sym e) w.0; splits = w.1 }, all_writable a t n c ks e h.1)
+    let w = case_writable t.rows x.head k.atom (claim_heads (heads_of a) c) x.tree x.keeps in
+    (record { tree = x.tree; stands = x.stands; leaves = subst (λ (i : ℕ). AllLeaves (λ g. g < i) x.tree) (sym e) w.0; splits = w.1 }, all_writable a t n c ks e h.1)
 
 -- ---- while goals are written
 
@@ -216,7 +221,7 @@ pub can_writable : (a : Automaton) (t : TableView) (states : List (Option Known)
 can_writable a t states numbers g rights places heads_ ks w e f h q =
     let y = typed_all w.program w.cells states w.known (row_at t.rows g).rights (w.types).rights in
     let count = places_heads (names_of (program_tree w.program)) a (continuation_of (w.program).types w.cells) (w.mirrors).moves (row_at t.rows g).rights y.types y.typed in
-    let same : length heads_ ≡ length (rules.right_heads (heads_of a) (claim_of (row_at t.rows g))) =
+    let same : length heads_ ≡ length (claim_heads (heads_of a) (claim_of (row_at t.rows g))) =
     ap length h ∙ sym (new_numbers-length places) ∙ ap length (f ∙ (ap (λ (ss : List State). all_places 1 (map (sorts_at states) ss)) e ∙ ap (all_places 1) y.sorts)) ∙ count in
     subst (AllByRecursion (IsWritable t.nodes (length numbers) (length heads_))) (sym q)
     (subst (λ (n : ℕ). AllByRecursion (IsWritable t.nodes (length numbers) n) (row_at t.rows g).choices) (sym same) w.writable)

@@ -13,13 +13,12 @@ use Rattle.xd_syntax.specs.RecursionFaults.{IsSound}
 use Rattle.xd_syntax.specs.Kept.{ProgramTable, program_tree}
 use Rattle.xd_auto.specs.declared.auto.State.{State}
 use Rattle.xd_auto.specs.Automaton.{Automaton}
-use Rattle.xd_meaning.specs.Consistent.{Goal, KeepsRules, numbered}
+use Rattle.xd_meaning.specs.Consistent.{Goal, KeepsRules}
+use Rattle.xd_rules.specs.Rules.{numbered, ChoiceTree, settles_content, settles_rest, split_on}
 use Rattle.xd_meaning.specs.Breach.{Lined, goals_of}
-use Rattle.xd_rules.specs.Heads as table
-use Rattle.xd_rules.specs.Rules as rules
 use Rattle.xd_rules.specs.Members.{IsOneOf}
 use Rattle.xd_rules.proofs.Members.{one_of-all, one_of-get, get-one_of}
-use Rattle.xd_rules.specs.Moves.{heads_of}
+use Rattle.xd_state_heads.specs.Moves.{heads_of}
 use Rattle.xd_goals.specs.Rows.{GoalRow, TableView, row_at, claim_of, IsRowBelow}
 use Rattle.xd_goals.specs.Standing.{IsBegun}
 use Rattle.xd_goals.specs.Facts.{FactsOnAutomaton}
@@ -50,6 +49,8 @@ use Rattle.xd_proof_make.proofs.SmallNumbers.{some_there, goals_writable, distin
 use Rattle.xd_proof_make.proofs.ProofGoalLemmas.{all_writable}
 use Rattle.xd_proof_make.proofs.UsesDefinedLemmas.{typed_row, row_typed-is, row_typed-from, typed_leads}
 use Rattle.xd_proof_make.proofs.GoalTypes.{all_named, all_shallow}
+use Rattle.xd_rules.specs.Heads.{Head, matches}
+use Rattle.xd_rules.specs.Meaning.{AllLeaves}
 
 -- ---- the proof
 
@@ -111,15 +112,15 @@ module _ (p : ProgramTable) (c : CellsView) (a : Automaton) (t : TableView) (sta
   met : (g : ℕ) → IsOneOf g order → IsMet numbers g
   met g m = let i = get-one_of g order m in record { before = i.0; is = (reached.numbered).to i.0 g i.1 }
 
-  leads : (g : ℕ) → IsMet numbers g → (k : Choice) → IsOneOf k (row_at t.rows g).choices → (tree : rules.ChoiceTree) → StandsAt t.nodes k.root tree → rules.AllLeaves (IsMet numbers) tree
+  leads : (g : ℕ) → IsMet numbers g → (k : Choice) → IsOneOf k (row_at t.rows g).choices → (tree : ChoiceTree) → StandsAt t.nodes k.root tree → AllLeaves (IsMet numbers) tree
   leads g h k m tree s = one_of-all (LeadsTo t.nodes (IsMet numbers)) k (row_at t.rows g).choices (reached.closed g (in_order g h)) m tree s
 
-  matched : (g : ℕ) → IsMet numbers g → (k : Choice) (h : table.Head State) → IsOneOf k (row_at t.rows g).choices → rules.head_number (heads_of a (row_at t.rows g).left) k.head ≡ Some h → table.matches h.kind k.atom ≡ true
+  matched : (g : ℕ) → IsMet numbers g → (k : Choice) (h : Head State) → IsOneOf k (row_at t.rows g).choices → numbered (heads_of a (row_at t.rows g).left) k.head ≡ Some h → matches h.kind k.atom ≡ true
   matched g x k h m e =
       let s = one_of-all (StandsSomewhere a t (claim_of (row_at t.rows g))) k (row_at t.rows g).choices (choices_stand a t stands g) m in
       let y = s.1 in
       let q : y.head ≡ h = (let f = y.found in cc) in
-      subst (λ (w : table.Head State). table.matches w.kind k.atom ≡ true) q y.matched
+      subst (λ (w : Head State). matches w.kind k.atom ≡ true) q y.matched
 
   written : (g : ℕ) → IsMet numbers g → (goal : Goal) × (numbered gs (number_in numbers g) ≡ Some goal) × IsWritten E a C t.nodes (number_in numbers) (row_at t.rows g) goal
   written g h =
@@ -178,10 +179,10 @@ module _ (p : ProgramTable) (c : CellsView) (a : Automaton) (t : TableView) (sta
 pub holds_there : (t : TableView) (g : ℕ) → (row_at t.rows g).standing ≡ Holds → g < length t.rows
 holds_there t g e = ⊎_elim (λ lt. lt) (λ ge. let w = (past_is_new t.rows g ge).standing in absurd (cc)) (cases_lt g (length t.rows))
 
-all_leaves : (P Q R : ℕ → Type 0) → ((g : ℕ) → P g → Q g → R g) → (tree : rules.ChoiceTree) → rules.AllLeaves P tree → rules.AllLeaves Q tree → rules.AllLeaves R tree
-all_leaves P Q R f (rules.ContentLeaf g) h k = f g h k
-all_leaves P Q R f (rules.RestLeaf g) h k = f g h k
-all_leaves P Q R f (rules.SplitOn j t u) h k = (all_leaves P Q R f t h.0 k.0, all_leaves P Q R f u h.1 k.1)
+all_leaves : (P Q R : ℕ → Type 0) → ((g : ℕ) → P g → Q g → R g) → (tree : ChoiceTree) → AllLeaves P tree → AllLeaves Q tree → AllLeaves R tree
+all_leaves P Q R f (settles_content g) h k = f g h k
+all_leaves P Q R f (settles_rest g) h k = f g h k
+all_leaves P Q R f (split_on j t u) h k = (all_leaves P Q R f t h.0 k.0, all_leaves P Q R f u h.1 k.1)
 
 pub all_fit : (p : ProgramTable) (c : CellsView) (a : Automaton) (t : TableView) (start : ℕ) (order numbers : List ℕ) → Mirrors p c a → FactsOnAutomaton a t → IsSettled t start → IsOfTypes c (row_at t.rows start)
     → AreReached t start order numbers → AllByRecursion (IsFit a t c) order

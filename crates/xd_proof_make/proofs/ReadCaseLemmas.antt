@@ -3,22 +3,22 @@ use Rattle.std.proofs.Common.{◌≡◌, ℕ, zero, suc, ◌+◌, ◌<◌, ◌�
 use Rattle.std.specs.List.{AllByRecursion, AllZip, slice_get}
 use Rattle.std.proofs.lemmas.List.{take_more, map-append}
 use Rattle.xd_doc.proofs.Lists.{all_append}
-use Rattle.xd_rules.specs.Rules.{ChoiceTree, ContentLeaf, RestLeaf, SplitOn, AllLeaves}
+use Rattle.xd_rules.specs.Rules.{ChoiceTree, settles_content, settles_rest, split_on, Case}
+use Rattle.xd_rules.specs.Meaning.{AllLeaves}
 use Rattle.xd_rules.specs.Members.{IsOneOf}
 use Rattle.xd_rules.proofs.Members.{one_of-append_left, one_of-append_right, one_of-all}
 use Rattle.xd_goals.specs.Trees.{StandsAt}
 use Rattle.xd_goals.specs.declared.table.Choice.{Choice}
 use Rattle.xd_goals.specs.declared.table.ChoiceNode.{ChoiceNode}
 use Rattle.xd_rules.proofs.Lists.{slice_get-push_cases}
-use Rattle.xd_meaning.specs.Consistent.{Case}
 use Rattle.xd_proof.specs.Parts.{IsAtom}
-use Rattle.xd_proof.specs.Cases.{IsCase, atom_of}
+use Rattle.xd_proof.specs.Cases.{IsCase}
 use Rattle.xd_proof.specs.Steps.{steps_of}
 use Rattle.xd_proof.specs.declared.cases.ReadCase.{ReadCase}
 use Rattle.xd_proof.specs.declared.steps.Step.{Step}
 use Rattle.xd_proof.specs.declared.steps.Step.TheVariants.{Split}
 use Rattle.xd_proof_make.specs.Steps.{table_steps}
-use Rattle.xd_proof_make.specs.Written.{written_atom, written_tree}
+use Rattle.xd_proof_make.specs.Written.{written_tree}
 use Rattle.xd_proof_make.specs.Places.{place_in}
 use Rattle.xd_proof_make.specs.Met.{IsMet, number_in}
 use Rattle.xd_proof_make.specs.Ordered.{IsCut, IsCaseOf, AreOrdered, AreWrittenCases, IsMadeOf, SplitsWithin, IsWritable, IsStepWithin, written_step}
@@ -29,18 +29,18 @@ use Rattle.xd_proof_make.proofs.AreHeadMovesLemmas.{zip_append}
 -- ---- steps with other numbers
 
 pub written-steps : (places numbers : List ℕ) (tree : ChoiceTree) → map (written_step places numbers) (table_steps tree) ≡ steps_of (written_tree (place_in places) (number_in numbers) tree)
-written-steps places numbers (ContentLeaf g) = refl
-written-steps places numbers (RestLeaf g) = refl
-written-steps places numbers (SplitOn j a b) =
+written-steps places numbers (settles_content g) = refl
+written-steps places numbers (settles_rest g) = refl
+written-steps places numbers (split_on j a b) =
     ap (λ (xs : List Step). Split (place_in places j) ∷ xs)
     (map-append (written_step places numbers) (table_steps a) (table_steps b)
     ∙ (ap (λ (xs : List Step). xs ++ map (written_step places numbers) (table_steps b)) (written-steps places numbers a)
     ∙ ap (λ (xs : List Step). steps_of (written_tree (place_in places) (number_in numbers) a) ++ xs) (written-steps places numbers b)))
 
 steps_within : (goals heads : ℕ) (tree : ChoiceTree) → AllLeaves (λ g. g < goals) tree → SplitsWithin heads tree → AllByRecursion (IsStepWithin goals heads) (table_steps tree)
-steps_within goals heads (ContentLeaf g) h k = (h, tt)
-steps_within goals heads (RestLeaf g) h k = (h, tt)
-steps_within goals heads (SplitOn j a b) h k =
+steps_within goals heads (settles_content g) h k = (h, tt)
+steps_within goals heads (settles_rest g) h k = (h, tt)
+steps_within goals heads (split_on j a b) h k =
     ((k.0, k.1), all_append (IsStepWithin goals heads) (table_steps a) (table_steps b) (steps_within goals heads a h.0 k.2) (steps_within goals heads b h.1 k.3))
 
 pub writable_steps : (nodes : List ChoiceNode) (goals heads : ℕ) (k : Choice) (steps : List Step) → IsWritable nodes goals heads k → ((tree : ChoiceTree) → StandsAt nodes k.root tree → steps ≡ table_steps tree)
@@ -49,9 +49,9 @@ writable_steps nodes goals heads k steps w e = subst (AllByRecursion (IsStepWith
 
 -- a choice as a case
 pub made_case : (nodes : List ChoiceNode) (places numbers : List ℕ) (goals heads n : ℕ) (k : Choice) (made : ReadCase) (steps : List Step) → IsWritable nodes goals heads k → ((tree : ChoiceTree) → StandsAt nodes k.root tree → steps ≡ table_steps tree)
-    → made.head ≡ n → atom_of made.atom ≡ written_atom k.atom → IsAtom (written_atom k.atom) → (made.steps).items ≡ map (written_step places numbers) steps → IsMadeOf nodes places numbers n k made
+    → made.head ≡ n → made.atom ≡ k.atom → IsAtom k.atom → (made.steps).items ≡ map (written_step places numbers) steps → IsMadeOf nodes places numbers n k made
 made_case nodes places numbers goals heads n k made steps w e h a spelled s = record {
-  case = record { head = n; atom = written_atom k.atom; choice = written_tree (place_in places) (number_in numbers) w.tree };
+  case = record { head = n; atom = k.atom; choice = written_tree (place_in places) (number_in numbers) w.tree };
   of_choice = record { head = refl; atom = refl; tree = w.tree; stands = w.stands; choice = refl };
   read = record { head = h; atom = a; steps = s ∙ (ap (map (written_step places numbers)) (e w.tree w.stands) ∙ written-steps places numbers w.tree) };
   atom = spelled;

@@ -7,9 +7,14 @@ use Rattle.xd_doc.proofs.Numbers.{le_lt}
 use Rattle.xd_syntax.specs.Tree.{Tree, Definitions}
 use Rattle.xd_syntax.specs.Ways.{Among}
 use Rattle.xd_auto.specs.declared.auto.State.{State}
-use Rattle.xd_meaning.specs.Heads.{Head, heads}
+use Rattle.xd_rules.specs.Heads.{Head}
+use Rattle.xd_meaning.specs.Heads.{heads}
 use Rattle.xd_laws.specs.SameTree.{same_tree}
-use Rattle.xd_meaning.specs.Consistent.{Atom, this_label, other_label, this_text, other_text, ChoiceTree, settles_content, settles_rest, split_on, Case, Goal, numbered, right_heads, Sides, no_sides, on_content, on_rest, LabelTree, TextTree, TreeRule, CaseRule, EmptyRule, KeepsRules}
+use Rattle.xd_rules.specs.declared.atom.Atom.{Atom}
+use Rattle.xd_rules.specs.declared.atom.Atom.TheVariants.{Label, OtherLabel, Text, OtherText}
+use Rattle.xd_rules.specs.Rules.{Claim, ChoiceTree, settles_content, settles_rest, split_on, Case, numbered, Sides, no_sides, on_content, on_rest, LabelTree, TextTree, TreeRule, CaseRule}
+use Rattle.xd_meaning.specs.Consistent.{Goal, claims, right_heads, EmptyRule, KeepsRules}
+use Rattle.xd_laws.proofs.Claims.{goal_of}
 use Rattle.xd_laws.proofs.Pigeon.{NoRepeat, pigeon}
 use Rattle.xd_laws.proofs.SameTrees.{tree_same}
 use Rattle.xd_goals.specs.Rows.{GoalRow, IsRowBelow, row_at}
@@ -37,25 +42,28 @@ is_number xs n x e few = let i = number_within xs n x e in record { least = i.0;
 
 -- ---- the numbers of a goal
 
-module _ (gs : List Goal) (few_goals : AreFew gs) (left : Head) (hs : List Head) (few_heads : AreFew hs) where
-  label_tree : (a : Atom) (s : Sides) (tree : ChoiceTree) → LabelTree gs a left hs s tree → HasNumbers tree
-  label_tree a s (settles_content n) k = is_number gs n k.goal k.stands few_goals
-  label_tree a s (settles_rest n) k = is_number gs n k.goal k.stands few_goals
+module _ (gs : List Goal) (few_goals : AreFew gs) (left : Head Tree) (hs : List (Head Tree)) (few_heads : AreFew hs) where
+  goal_number : (n : ℕ) (c : Claim Tree) → claims gs n ≡ Some c → IsNumber n
+  goal_number n c e = let g = goal_of gs n c e in is_number gs n g.0 g.1 few_goals
+
+  label_tree : (a : Atom) (s : Sides) (tree : ChoiceTree) → LabelTree (claims gs) a left hs s tree → HasNumbers tree
+  label_tree a s (settles_content n) k = goal_number n k.claim k.stands
+  label_tree a s (settles_rest n) k = goal_number n k.claim k.stands
   label_tree a s (split_on n t u) k = (is_number hs n (k.0).head (k.0).stands few_heads, label_tree a (on_content n s) t k.1, label_tree a (on_rest n s) u k.2)
 
-  text_tree : (a : Atom) (tree : ChoiceTree) → TextTree gs a left hs tree → HasNumbers tree
+  text_tree : (a : Atom) (tree : ChoiceTree) → TextTree (claims gs) a left hs tree → HasNumbers tree
   text_tree a (settles_content n) k = absurd k
-  text_tree a (settles_rest n) k = is_number gs n k.goal k.stands few_goals
+  text_tree a (settles_rest n) k = goal_number n k.claim k.stands
   text_tree a (split_on n t u) k = absurd k
 
-  tree_numbers : (a : Atom) (tree : ChoiceTree) → TreeRule gs a left hs tree → HasNumbers tree
-  tree_numbers (this_label l) tree k = label_tree (this_label l) no_sides tree k
-  tree_numbers other_label tree k = label_tree other_label no_sides tree k
-  tree_numbers (this_text s) tree k = text_tree (this_text s) tree k
-  tree_numbers other_text tree k = text_tree other_text tree k
+  tree_numbers : (a : Atom) (tree : ChoiceTree) → TreeRule (claims gs) a left hs tree → HasNumbers tree
+  tree_numbers (Label l) tree k = label_tree (Label l) no_sides tree k
+  tree_numbers OtherLabel tree k = label_tree OtherLabel no_sides tree k
+  tree_numbers (Text s) tree k = text_tree (Text s) tree k
+  tree_numbers OtherText tree k = text_tree OtherText tree k
 
 module _ (E : Definitions) (gs : List Goal) (few : AreFew gs) where
-  cases_writable : (g : Goal) → IsSmall E g → (cs : List Case) → AllByRecursion (CaseRule E gs g) cs → AllByRecursion (λ (c : Case). IsAtom c.atom) cs → AllByRecursion IsWritableCase cs
+  cases_writable : (g : Goal) → IsSmall E g → (cs : List Case) → AllByRecursion (CaseRule (claims gs) (heads E g.left) (right_heads E g)) cs → AllByRecursion (λ (c : Case). IsAtom c.atom) cs → AllByRecursion IsWritableCase cs
   cases_writable g s [] k a = tt
   cases_writable g s (c ∷ cs) k a =
       let r = k.0 in (

@@ -1,7 +1,7 @@
 -- Trees as steps: what is still to come of them, and how many steps.
 use Rattle.std.proofs.Common.{◌≡◌, ℕ, zero, suc, ◌+◌, ◌<◌, List, [], ◌∷◌, ◌++◌, length, Option, Some, None, refl, sym, ap, subst, ◌∙◌, arith, append_assoc, append-nil}
 use Rattle.std.specs.List.{AllZip, slice_get}
-use Rattle.xd_rules.specs.Rules.{ChoiceTree, ContentLeaf, RestLeaf, SplitOn}
+use Rattle.xd_rules.specs.Rules.{ChoiceTree, settles_content, settles_rest, split_on}
 use Rattle.xd_goals.specs.Trees.{StandsAt}
 use Rattle.xd_goals.specs.declared.table.ChoiceNode.{ChoiceNode}
 use Rattle.xd_goals.specs.declared.table.ChoiceNode.TheVariants as nodes
@@ -13,9 +13,9 @@ use Rattle.xd_proof_make.specs.Steps.{table_steps, node_step, node_parts, IsOpen
 -- ---- how many steps a node has
 
 step_count : ChoiceTree → ℕ
-step_count (ContentLeaf g) = 1
-step_count (RestLeaf g) = 1
-step_count (SplitOn j a b) = 1 + (step_count a + step_count b)
+step_count (settles_content g) = 1
+step_count (settles_rest g) = 1
+step_count (split_on j a b) = 1 + (step_count a + step_count b)
 
 -- as far as a node's tree has no more than so many levels
 count_by : (ℕ → ℕ) → Option ChoiceNode → ℕ
@@ -31,20 +31,20 @@ count_within (suc f) ns n = count_by (count_within f ns) (slice_get ns n)
 count-is : (ns : List ChoiceNode) (t : ChoiceTree) (f n : ℕ) → StandsAt ns n t → n < f → count_within f ns n ≡ step_count t
 unfolding count_within count_by step_count
 count-is ns t zero n s lt = absurd (omega arith)
-count-is ns (ContentLeaf g) (suc f) n s lt = at (slice_get ns n) s
+count-is ns (settles_content g) (suc f) n s lt = at (slice_get ns n) s
   where
-    at : (o : Option ChoiceNode) → o ≡ Some (nodes.Content (record { number = g })) → count_by (count_within f ns) o ≡ step_count (ContentLeaf g)
+    at : (o : Option ChoiceNode) → o ≡ Some (nodes.Content (record { number = g })) → count_by (count_within f ns) o ≡ step_count (settles_content g)
     at o e = ap (count_by (count_within f ns)) e
-count-is ns (RestLeaf g) (suc f) n s lt = at (slice_get ns n) s
+count-is ns (settles_rest g) (suc f) n s lt = at (slice_get ns n) s
   where
-    at : (o : Option ChoiceNode) → o ≡ Some (nodes.Rest (record { number = g })) → count_by (count_within f ns) o ≡ step_count (RestLeaf g)
+    at : (o : Option ChoiceNode) → o ≡ Some (nodes.Rest (record { number = g })) → count_by (count_within f ns) o ≡ step_count (settles_rest g)
     at o e = ap (count_by (count_within f ns)) e
-count-is ns (SplitOn j a b) (suc f) n s lt =
+count-is ns (split_on j a b) (suc f) n s lt =
     let x = s.0 in let y = s.1 in
     let p = s.3 in let q = s.4 in
     at (slice_get ns n) x y s.2 (count-is ns a f x s.5 (omega arith)) (count-is ns b f y s.6 (omega arith))
   where
-    at : (o : Option ChoiceNode) (x y : ℕ) → o ≡ Some (nodes.Split j x y) → count_within f ns x ≡ step_count a → count_within f ns y ≡ step_count b → count_by (count_within f ns) o ≡ step_count (SplitOn j a b)
+    at : (o : Option ChoiceNode) (x y : ℕ) → o ≡ Some (nodes.Split j x y) → count_within f ns x ≡ step_count a → count_within f ns y ≡ step_count b → count_by (count_within f ns) o ≡ step_count (split_on j a b)
     at o x y e g h = ap (count_by (count_within f ns)) e ∙ (ap (λ (k : ℕ). 1 + (k + count_within f ns y)) g ∙ ap (λ (k : ℕ). 1 + (step_count a + k)) h)
 
 -- the steps that the nodes on a stack have
@@ -131,17 +131,17 @@ record IsTurned (ns : List ChoiceNode) (under : List ChoiceTree) (below : List �
 turned : (ns : List ChoiceNode) (under : List ChoiceTree) (below : List ℕ) (n : ℕ) (top : ChoiceTree) (node : ChoiceNode) → AllZip (StandsAt ns) below under → StandsAt ns n top → slice_get ns n ≡ Some node
     → IsTurned ns under below top (node_step node) (below ++ node_parts node)
 unfolding step_count
-turned ns under below n (ContentLeaf g) node z s e =
+turned ns under below n (settles_content g) node z s e =
     let q : nodes.Content (record { number = g }) ≡ node = cc in
-    subst (λ (x : ChoiceNode). IsTurned ns under below (ContentLeaf g) (node_step x) (below ++ node_parts x)) q
+    subst (λ (x : ChoiceNode). IsTurned ns under below (settles_content g) (node_step x) (below ++ node_parts x)) q
     (record { more = under; stand = subst (λ (b : List ℕ). AllZip (StandsAt ns) b under) (sym (append-nil below)) z; same = refl; fewer = omega arith })
-turned ns under below n (RestLeaf g) node z s e =
+turned ns under below n (settles_rest g) node z s e =
     let q : nodes.Rest (record { number = g }) ≡ node = cc in
-    subst (λ (x : ChoiceNode). IsTurned ns under below (RestLeaf g) (node_step x) (below ++ node_parts x)) q
+    subst (λ (x : ChoiceNode). IsTurned ns under below (settles_rest g) (node_step x) (below ++ node_parts x)) q
     (record { more = under; stand = subst (λ (b : List ℕ). AllZip (StandsAt ns) b under) (sym (append-nil below)) z; same = refl; fewer = omega arith })
-turned ns under below n (SplitOn j a b) node z s e =
+turned ns under below n (split_on j a b) node z s e =
     let q : nodes.Split j s.0 s.1 ≡ node = (let k = s.2 in cc) in
-    subst (λ (x : ChoiceNode). IsTurned ns under below (SplitOn j a b) (node_step x) (below ++ node_parts x)) q
+    subst (λ (x : ChoiceNode). IsTurned ns under below (split_on j a b) (node_step x) (below ++ node_parts x)) q
     (record {
       more = (under ++ b ∷ []) ++ a ∷ [];
       stand = subst (λ (l : List ℕ). AllZip (StandsAt ns) l ((under ++ b ∷ []) ++ a ∷ [])) (append_assoc below (s.1 ∷ []) (s.0 ∷ []))

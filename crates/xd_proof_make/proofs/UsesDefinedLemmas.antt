@@ -1,7 +1,7 @@
 -- A test on types that the contents and rests of heads pass where the type does: rows whose types
 -- pass lead to such rows.
-use Rattle.std.proofs.Common.{◌≡◌, ℕ, Bool, true, false, ◌&&◌, cond, List, [], ◌∷◌, map, Option, Some, None, refl, sym, ap, subst, ◌∙◌}
-use Rattle.std.specs.List.{AllByRecursion, filter, flat_map, list_all}
+use Rattle.std.proofs.Common.{◌≡◌, ℕ, Bool, true, false, ◌&&◌, List, [], ◌∷◌, map, Option, Some, None, refl, sym, ap, subst, ◌∙◌}
+use Rattle.std.specs.List.{AllByRecursion, flat_map, list_all}
 use Rattle.std.proofs.lemmas.Bool.{and_parts, and_from}
 use Rattle.xd_doc.proofs.Lists.{all_more, all_append}
 use Rattle.xd_syntax.specs.Tree.{Tree, Definitions, seq_of}
@@ -11,13 +11,12 @@ use Rattle.xd_auto.specs.declared.auto.State.{State}
 use Rattle.xd_auto.specs.declared.auto.LabelMove.{LabelMove}
 use Rattle.xd_auto.specs.declared.auto.TextMove.{TextMove}
 use Rattle.xd_auto.specs.Automaton.{Automaton, moves_at}
-use Rattle.xd_meaning.specs.Heads.{Head, heads}
-use Rattle.xd_rules.specs.Heads as table
-use Rattle.xd_rules.specs.Rules as rules
+use Rattle.xd_rules.specs.Heads.{Head}
+use Rattle.xd_meaning.specs.Heads.{heads}
 use Rattle.xd_rules.specs.Members.{IsOneOf}
-use Rattle.xd_rules.proofs.Members.{one_of-all, one_of-head_number}
-use Rattle.xd_rules.specs.declared.atom.Atom.{Atom as TableAtom}
-use Rattle.xd_rules.specs.Moves.{heads_of, label_head, text_head}
+use Rattle.xd_rules.proofs.Members.{one_of-all, one_of-numbered}
+use Rattle.xd_rules.specs.declared.atom.Atom.{Atom}
+use Rattle.xd_state_heads.specs.Moves.{heads_of, label_head, text_head}
 use Rattle.xd_goals.specs.Rows.{GoalRow, TableView, row_at, claim_of, claim_at}
 use Rattle.xd_goals.specs.Truth as goals
 use Rattle.xd_goals.specs.declared.table.Choice.{Choice}
@@ -30,6 +29,9 @@ use Rattle.xd_heads.specs.Mirrors as mirrors
 use Rattle.xd_heads.proofs.Mirrored.{type_is, type_of_number}
 use Rattle.xd_proof_make.specs.Met.{LeadsTo}
 use Rattle.xd_proof_make.specs.Made.{IsOfTypes}
+use Rattle.xd_rules.specs.Rules.{ChoiceTree, Claim, HasPart, LabelTree, LeafRule, Sides, TextTree, TreeRule, matching, no_sides, on_content, on_rest, settles_content, settles_rest, split_on}
+use Rattle.xd_rules.specs.declared.atom.Atom.TheVariants.{Label, OtherLabel, Text, OtherText}
+use Rattle.xd_rules.specs.Meaning.{AllLeaves, right_heads as claim_heads}
 
 -- the state has a type, which passes
 abbrev pub HasPassing : (State → Option Tree) → (Tree → Bool) → State → Type 0
@@ -79,18 +81,18 @@ module _ (C : State → Option Tree) (test : Tree → Bool) where
 
 -- ---- from a row to those that its leaves name
 
-abbrev pub HeadsPass : (Tree → Bool) → List Head → Type 0
-HeadsPass test hs = AllByRecursion (λ (h : Head). (test h.content ≡ true) × (test h.rest ≡ true)) hs
+abbrev pub HeadsPass : (Tree → Bool) → List (Head Tree) → Type 0
+HeadsPass test hs = AllByRecursion (λ (h : Head Tree). (test h.content ≡ true) × (test h.rest ≡ true)) hs
 
 module _ (E : Definitions) (a : Automaton) (C : State → Option Tree) (moves : (s : State) (T : Tree) → C s ≡ Some T → AreHeadMoves C (heads E T) (moves_at a s).labels (moves_at a s).texts)
     (test : Tree → Bool) (kept : (T : Tree) → test T ≡ true → HeadsPass test (heads E T)) where
   abbrev Has : State → Type 0
   Has s = HasPassing C test s
 
-  abbrev HasBoth : table.Head State → Type 0
+  abbrev HasBoth : Head State → Type 0
   HasBoth h = Has h.content × Has h.rest
 
-  moves_pass : {hs : List Head} {ls : List LabelMove} {ts : List TextMove} → AreHeadMoves C hs ls ts → HeadsPass test hs → AllByRecursion HasBoth (map label_head ls) × AllByRecursion HasBoth (map text_head ts)
+  moves_pass : {hs : List (Head Tree)} {ls : List LabelMove} {ts : List TextMove} → AreHeadMoves C hs ls ts → HeadsPass test hs → AllByRecursion HasBoth (map label_head ls) × AllByRecursion HasBoth (map text_head ts)
   moves_pass no_head x = (tt, tt)
   moves_pass (element_head {h} {hs} {l} {ls} {ts} k content rest w) x =
       let i = moves_pass w x.1 in ((((h.content, content, (x.0).0), (h.rest, rest, (x.0).1)), i.0), i.1)
@@ -106,42 +108,39 @@ module _ (E : Definitions) (a : Automaton) (C : State → Option Tree) (moves : 
   right_heads_pass [] h = tt
   right_heads_pass (s ∷ ss) h = all_append HasBoth (heads_of a s) (flat_map (heads_of a) ss) (state_heads s h.0) (right_heads_pass ss h.1)
 
-  leaf_passes : (rows : List GoalRow) (g : ℕ) (left : State) (allowed : List State) → rules.LeafKeeps (claim_at rows) g left allowed → Has left → AllByRecursion Has allowed → row_passes C test (row_at rows g) ≡ true
-  leaf_passes rows g left allowed k h w =
-      let e = (claim_within rows g k.claim k.found).1 in
+  leaf_passes : (part : Head State → State) (rows : List GoalRow) (g : ℕ) (left : Head State) (hs : List (Head State)) (side : List ℕ) → LeafRule part (claim_at rows) left hs side g
+      → Has (part left) → ((h : Head State) → IsOneOf h hs → Has (part h)) → row_passes C test (row_at rows g) ≡ true
+  leaf_passes part rows g left hs side k h w =
+      let e = (claim_within rows g k.claim k.stands).1 in
       row_passes-from C test (row_at rows g) (
-        subst Has (sym (ap (λ (x : rules.Claim State). x.left) e ∙ k.same_left)) h,
-        subst (AllByRecursion Has) (sym (ap (λ (x : rules.Claim State). x.rights) e)) (among k.claim.rights k.rights_allowed),
+        subst Has (sym (ap (λ (x : Claim State). x.left) e ∙ k.same_left)) h,
+        subst (AllByRecursion Has) (sym (ap (λ (x : Claim State). x.rights) e)) (parts k.claim.rights k.rights_stand),
       )
     where
-      among : (ss : List State) → AllByRecursion (λ s. IsOneOf s allowed) ss → AllByRecursion Has ss
-      among [] x = tt
-      among (s ∷ ss) x = (one_of-all Has s allowed w x.0, among ss x.1)
+      parts : (ss : List State) → AllByRecursion (HasPart part hs side) ss → AllByRecursion Has ss
+      parts [] x = tt
+      parts (s ∷ ss) x = let y = x.0 in (subst Has y.4 (w y.1 (one_of-numbered y.1 hs y.0 y.3)), parts ss x.1)
 
-  module _ (rows : List GoalRow) (h : table.Head State) (has : HasBoth h) (atom : TableAtom) (rs : List (table.Head State)) (all : AllByRecursion HasBoth rs) where
-    tree_passes : (tree : rules.ChoiceTree) (cs ss : List State) (seen : List ℕ) → rules.TreeKeeps (claim_at rows) h atom rs tree cs ss seen → AllByRecursion Has cs → AllByRecursion Has ss → rules.AllLeaves (λ g. row_passes C test (row_at rows g) ≡ true) tree
-    tree_passes (rules.ContentLeaf g) cs ss seen k x y = leaf_passes rows g h.content cs k has.0 x
-    tree_passes (rules.RestLeaf g) cs ss seen k x y = leaf_passes rows g h.rest ss k has.1 y
-    tree_passes (rules.SplitOn j t u) cs ss seen k x y =
-        let w = one_of-all HasBoth k.0 rs all (one_of-head_number k.0 rs j k.1) in
-        (tree_passes t ((k.0).content ∷ cs) ss (j ∷ seen) k.4 (w.0, x) y, tree_passes u cs ((k.0).rest ∷ ss) (j ∷ seen) k.5 x (w.1, y))
+  module _ (rows : List GoalRow) (h : Head State) (has : HasBoth h) (atom : Atom) (rs : List (Head State)) (all : AllByRecursion HasBoth rs) where
+    rest_passes : (side : List ℕ) (g : ℕ) → LeafRule (λ h. h.rest) (claim_at rows) h rs side g → row_passes C test (row_at rows g) ≡ true
+    rest_passes side g k = leaf_passes (λ x. x.rest) rows g h rs side k has.1 (λ x m. (one_of-all HasBoth x rs all m).1)
 
-    rests_pass : (hs : List (table.Head State)) → AllByRecursion HasBoth hs → AllByRecursion Has (rules.matching_rests atom hs)
-    rests_pass [] x = tt
-    rests_pass (g ∷ hs) x = go (table.matches g.kind atom) (rests_pass hs x.1)
-      where
-        go : (b : Bool) → AllByRecursion Has (rules.matching_rests atom hs) → AllByRecursion Has (map (λ (f : table.Head State). f.rest) (cond b (g ∷ filter (λ f. table.matches f.kind atom) hs) (filter (λ f. table.matches f.kind atom) hs)))
-        go true i = ((x.0).1, i)
-        go false i = i
+    tree_passes : (tree : ChoiceTree) (s : Sides) → LabelTree (claim_at rows) atom h rs s tree → AllLeaves (λ g. row_passes C test (row_at rows g) ≡ true) tree
+    tree_passes (settles_content g) s k = leaf_passes (λ x. x.content) rows g h rs s.content k has.0 (λ x m. (one_of-all HasBoth x rs all m).0)
+    tree_passes (settles_rest g) s k = rest_passes s.rest g k
+    tree_passes (split_on j t u) s k = (tree_passes t (on_content j s) k.1, tree_passes u (on_rest j s) k.2)
 
-    case_passes : (tree : rules.ChoiceTree) → rules.CaseKeeps (claim_at rows) h atom rs tree → rules.AllLeaves (λ g. row_passes C test (row_at rows g) ≡ true) tree
-    case_passes tree k = go (table.is_text_atom atom) tree k
-      where
-        go : (b : Bool) (t : rules.ChoiceTree) → rules.KeepsBySort b (claim_at rows) h atom rs t → rules.AllLeaves (λ g. row_passes C test (row_at rows g) ≡ true) t
-        go false t x = tree_passes t [] [] [] x tt tt
-        go true (rules.ContentLeaf g) x = absurd x
-        go true (rules.SplitOn j t u) x = absurd x
-        go true (rules.RestLeaf g) x = leaf_passes rows g h.rest (rules.matching_rests atom rs) x has.1 (rests_pass rs all)
+    text_passes : (tree : ChoiceTree) → TextTree (claim_at rows) atom h rs tree → AllLeaves (λ g. row_passes C test (row_at rows g) ≡ true) tree
+    text_passes (settles_content g) k = absurd k
+    text_passes (split_on j t u) k = absurd k
+    text_passes (settles_rest g) k = rest_passes (matching atom 1 rs) g k
+
+  case_passes : (rows : List GoalRow) (h : Head State) → HasBoth h → (atom : Atom) (rs : List (Head State)) → AllByRecursion HasBoth rs → (tree : ChoiceTree) → TreeRule (claim_at rows) atom h rs tree
+      → AllLeaves (λ g. row_passes C test (row_at rows g) ≡ true) tree
+  case_passes rows h has (Label l) rs all tree k = tree_passes rows h has (Label l) rs all tree no_sides k
+  case_passes rows h has OtherLabel rs all tree k = tree_passes rows h has OtherLabel rs all tree no_sides k
+  case_passes rows h has (Text t) rs all tree k = text_passes rows h has (Text t) rs all tree k
+  case_passes rows h has OtherText rs all tree k = text_passes rows h has OtherText rs all tree k
 
   pub passing_leads : (t : TableView) (g : ℕ) (ks : List Choice) → AllByRecursion (goals.KeepsRules a t (claim_of (row_at t.rows g))) ks → row_passes C test (row_at t.rows g) ≡ true
       → AllByRecursion (LeadsTo t.nodes (λ i. row_passes C test (row_at t.rows i) ≡ true)) ks
@@ -149,9 +148,9 @@ module _ (E : Definitions) (a : Automaton) (C : State → Option Tree) (moves : 
   passing_leads t g (k ∷ ks) h e =
       let x = h.0 in
       let o = row_passes-is C test (row_at t.rows g) e in
-      let hd = one_of-all HasBoth x.head (heads_of a (row_at t.rows g).left) (state_heads (row_at t.rows g).left o.0) (one_of-head_number x.head (heads_of a (row_at t.rows g).left) k.head x.found) in
-      let all = case_passes t.rows x.head hd k.atom (rules.right_heads (heads_of a) (claim_of (row_at t.rows g))) (right_heads_pass (row_at t.rows g).rights o.1) x.tree x.keeps in
-      (λ tree s. subst (λ (z : rules.ChoiceTree). rules.AllLeaves (λ i. row_passes C test (row_at t.rows i) ≡ true) z) (StandsAt-one t.nodes x.tree tree k.root x.stands s) all, passing_leads t g ks h.1 e)
+      let hd = one_of-all HasBoth x.head (heads_of a (row_at t.rows g).left) (state_heads (row_at t.rows g).left o.0) (one_of-numbered x.head (heads_of a (row_at t.rows g).left) k.head x.found) in
+      let all = case_passes t.rows x.head hd k.atom (claim_heads (heads_of a) (claim_of (row_at t.rows g))) (right_heads_pass (row_at t.rows g).rights o.1) x.tree x.keeps in
+      (λ tree s. subst (λ (z : ChoiceTree). AllLeaves (λ i. row_passes C test (row_at t.rows i) ≡ true) z) (StandsAt-one t.nodes x.tree tree k.root x.stands s) all, passing_leads t g ks h.1 e)
 
 -- ---- states of types
 
@@ -186,6 +185,6 @@ pub typed_leads : (p : ProgramTable) (c : CellsView) (a : Automaton) → Mirrors
 unfolding typed_row
 typed_leads p c a m = passing_leads (names_of (program_tree p)) a (continuation_of p.types c) m.moves any_type_passes (λ T e. all_heads (heads (names_of (program_tree p)) T))
   where
-    all_heads : (hs : List Head) → HeadsPass any_type_passes hs
+    all_heads : (hs : List (Head Tree)) → HeadsPass any_type_passes hs
     all_heads [] = tt
     all_heads (h ∷ hs) = ((refl, refl), all_heads hs)

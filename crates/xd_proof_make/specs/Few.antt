@@ -3,7 +3,8 @@ use Rattle.std.specs.Prelude.{◌<◌, ◌^◌, List, length}
 use Rattle.std.specs.List.{AllByRecursion}
 use Rattle.xd_syntax.specs.Tree.{Definitions}
 use Rattle.xd_meaning.specs.Heads.{heads}
-use Rattle.xd_meaning.specs.Consistent.{Case, Goal, right_heads}
+use Rattle.xd_rules.specs.Rules.{Case}
+use Rattle.xd_meaning.specs.Consistent.{Goal, right_heads}
 use Rattle.xd_proof.specs.Lines.{most_digits}
 use Rattle.xd_proof.specs.Parts.{IsAtom}
 

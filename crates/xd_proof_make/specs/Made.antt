@@ -10,10 +10,11 @@ use Rattle.xd_syntax.specs.Program.{ProgramTree, names_of}
 use Rattle.xd_syntax.specs.Kept.{ProgramTable, program_tree}
 use Rattle.xd_auto.specs.declared.auto.State.{State}
 use Rattle.xd_auto.specs.Automaton.{Automaton}
-use Rattle.xd_meaning.specs.Consistent.{Goal, IsConsistent, numbered}
+use Rattle.xd_meaning.specs.Consistent.{Goal, IsConsistent}
+use Rattle.xd_rules.specs.Rules.{numbered}
 use Rattle.xd_meaning.specs.Breach.{Lined, goals_of}
-use Rattle.xd_rules.specs.Rules.{right_heads}
-use Rattle.xd_rules.specs.Moves.{AreBelow, heads_of, is_last_in}
+use Rattle.xd_rules.specs.Meaning.{right_heads}
+use Rattle.xd_state_heads.specs.Moves.{AreBelow, heads_of, is_last_in}
 use Rattle.xd_goals.specs.Rows.{GoalRow, TableView, claim_of, row_at}
 use Rattle.xd_goals.specs.Standing.{IsBegun}
 use Rattle.xd_goals.specs.declared.table.ChoiceNode.{ChoiceNode}

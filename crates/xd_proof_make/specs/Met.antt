@@ -1,7 +1,8 @@
 -- Goals that are met, in order, and the number of each: its place among them, from 1.
 use Rattle.std.specs.Prelude.{◌≡◌, ℕ, zero, suc, ◌+◌, Bool, true, List, [], ◌∷◌, length, Some, slice_get, slice_index_or}
 use Rattle.std.specs.List.{AllByRecursion}
-use Rattle.xd_rules.specs.Rules.{ChoiceTree, AllLeaves}
+use Rattle.xd_rules.specs.Rules.{ChoiceTree}
+use Rattle.xd_rules.specs.Meaning.{AllLeaves}
 use Rattle.xd_rules.specs.Members.{IsOneOf}
 use Rattle.xd_goals.specs.Rows.{TableView, row_at}
 use Rattle.xd_goals.specs.Trees.{StandsAt}

@@ -1,8 +1,8 @@
 -- Cases in the order of the heads of a type.
 use Rattle.std.specs.Prelude.{◌≡◌, ℕ, ◌+◌, ◌<◌, ◌≤◌, Bool, true, false, List, [], ◌∷◌, ◌++◌}
 use Rattle.std.specs.List.{AllByRecursion, AllZip}
-use Rattle.xd_meaning.specs.Consistent.{Case}
-use Rattle.xd_rules.specs.Rules.{ChoiceTree, ContentLeaf, RestLeaf, SplitOn, AllLeaves}
+use Rattle.xd_rules.specs.Rules.{Case, ChoiceTree, settles_content, settles_rest, split_on}
+use Rattle.xd_rules.specs.Meaning.{AllLeaves}
 use Rattle.xd_goals.specs.Trees.{StandsAt}
 use Rattle.xd_goals.specs.declared.table.Choice.{Choice}
 use Rattle.xd_goals.specs.declared.table.ChoiceNode.{ChoiceNode}
@@ -11,7 +11,7 @@ use Rattle.xd_proof.specs.Cases.{IsCase}
 use Rattle.xd_proof.specs.declared.cases.ReadCase.{ReadCase}
 use Rattle.xd_proof.specs.declared.steps.Step.{Step}
 use Rattle.xd_proof.specs.declared.steps.Step.TheVariants.{Content, Rest, Split}
-use Rattle.xd_proof_make.specs.Written.{written_atom, written_tree}
+use Rattle.xd_proof_make.specs.Written.{written_tree}
 use Rattle.xd_proof_make.specs.Places.{place_in}
 use Rattle.xd_proof_make.specs.Met.{number_in}
 
@@ -28,7 +28,7 @@ pub record IsCut (bound : ℕ) (whole front back : List Choice) : Type 0 where
 -- a choice as a case of the head with this number
 pub record IsCaseOf (nodes : List ChoiceNode) (places numbers : List ℕ) (n : ℕ) (k : Choice) (c : Case) : Type 0 where
   pub head : c.head ≡ n
-  pub atom : c.atom ≡ written_atom k.atom
+  pub atom : c.atom ≡ k.atom
   pub tree : ChoiceTree
   pub stands : StandsAt nodes k.root tree
   pub choice : c.choice ≡ written_tree (place_in places) (number_in numbers) tree
@@ -63,9 +63,9 @@ pub record IsMadeOf (nodes : List ChoiceNode) (places numbers : List ℕ) (n : �
 
 -- the numbers in a tree's splits are from 1 to n
 abbrev pub SplitsWithin : ℕ → ChoiceTree → Type 0
-SplitsWithin n (ContentLeaf g) = Unit {0}
-SplitsWithin n (RestLeaf g) = Unit {0}
-SplitsWithin n (SplitOn j a b) = (0 < j) × (j ≤ n) × SplitsWithin n a × SplitsWithin n b
+SplitsWithin n (settles_content g) = Unit {0}
+SplitsWithin n (settles_rest g) = Unit {0}
+SplitsWithin n (split_on j a b) = (0 < j) × (j ≤ n) × SplitsWithin n a × SplitsWithin n b
 
 -- the choice has a tree whose leaves name goals of the table, and whose splits right heads
 pub record IsWritable (nodes : List ChoiceNode) (goals heads : ℕ) (k : Choice) : Type 0 where

@@ -6,7 +6,8 @@ use Rattle.xd_syntax.specs.NameFaults.{known_types}
 use Rattle.xd_syntax.specs.Program.{ProgramTree, names_of}
 use Rattle.xd_auto.specs.declared.auto.State.{State}
 use Rattle.xd_goals.specs.Rows.{GoalRow}
-use Rattle.xd_meaning.specs.Consistent.{Goal, IsConsistent, numbered}
+use Rattle.xd_meaning.specs.Consistent.{Goal, IsConsistent}
+use Rattle.xd_rules.specs.Rules.{numbered}
 use Rattle.xd_proof_make.specs.Made.{IsBetween, UsesDefined}
 use Rattle.xd_proof_write.specs.Laws.{SpellsGoals}
 

@@ -1,6 +1,6 @@
 -- Choice trees of a table as steps, each tree before its parts, with the table's numbers.
 use Rattle.std.specs.Prelude.{◌≡◌, ℕ, List, [], ◌∷◌, ◌++◌, Some, slice_get}
-use Rattle.xd_rules.specs.Rules.{ChoiceTree, ContentLeaf, RestLeaf, SplitOn}
+use Rattle.xd_rules.specs.Rules.{ChoiceTree, settles_content, settles_rest, split_on}
 use Rattle.xd_goals.specs.Trees.{StandsAt}
 use Rattle.xd_goals.specs.declared.table.ChoiceNode.{ChoiceNode}
 use Rattle.xd_goals.specs.declared.table.ChoiceNode.TheVariants as nodes
@@ -8,9 +8,9 @@ use Rattle.xd_proof.specs.declared.steps.Step.{Step}
 use Rattle.xd_proof.specs.declared.steps.Step.TheVariants.{Content, Rest, Split}
 
 abbrev pub table_steps : ChoiceTree → List Step
-table_steps (ContentLeaf g) = Content g ∷ []
-table_steps (RestLeaf g) = Rest g ∷ []
-table_steps (SplitOn j a b) = Split j ∷ (table_steps a ++ table_steps b)
+table_steps (settles_content g) = Content g ∷ []
+table_steps (settles_rest g) = Rest g ∷ []
+table_steps (split_on j a b) = Split j ∷ (table_steps a ++ table_steps b)
 
 -- a node's own step, and its parts, the first of them last
 abbrev pub node_step : ChoiceNode → Step

@@ -4,8 +4,6 @@ ghost use Rattle.std.specs.Prelude.{◌≡◌, ◌<◌, ◌+◌, ◌++◌, ◌^�
 ghost use Rattle.xd_proof.specs.declared.cases.ReadCase.{ReadCase};
 ghost use Rattle.std.specs.List.{AllByRecursion, AllZip};
 ghost use Rattle.xd_proof.specs.Parts.{IsAtom};
-ghost use Rattle.xd_proof.specs.Cases.{atom_of};
-ghost use Rattle.xd_proof_make.specs.Written.{written_atom};
 ghost use Rattle.xd_proof_make.specs.Few.{AreFew};
 ghost use Rattle.xd_proof_make.specs.Places.{new_numbers};
 ghost use Rattle.xd_proof_make.specs.Ordered.{AreWrittenCases, IsCut, IsMadeOf, IsStepWithin, IsWritable, written_step};
@@ -15,7 +13,8 @@ use crate::steps::table_steps;
 use std::alloc::Global;
 use xd_doc::NoMemory;
 use xd_goals::{Choice, Table};
-use xd_proof::{ProofAtom, ReadCase, Step};
+use xd_proof::{ReadCase, Step};
+use xd_rules::{Atom, share};
 
 /// The choices before the first whose head has at least this number, and the others.
 fn cut_choices(choices: &[Choice], bound: usize) -> (&[Choice], &[Choice])
@@ -29,23 +28,21 @@ fn cut_choices(choices: &[Choice], bound: usize) -> (&[Choice], &[Choice])
     choices.split_at(choices.len())
 }
 
-/// The atom, as proofs have it.
-fn write_atom(atom: &xd_goals::Atom) -> Result<ProofAtom, NoMemory>
-    ensures same { IfOk result (λ made. atom_of made ≡ written_atom atom.now) }
-    ensures spelled { IsAtom (written_atom atom.now) }
+/// An equal atom. A proof text can spell each that there is.
+fn share_atom(atom: &Atom) -> Result<Atom, NoMemory>
+    ensures same { IfOk result (λ made. made ≡ atom.now) }
+    ensures spelled { IsAtom atom.now }
 {
     match atom {
-        xd_goals::Atom::Label(label) => {
+        Atom::Label(label) => {
             let _word = label.as_str();
-            Ok(ProofAtom::Label(label.share()?))
         }
-        xd_goals::Atom::OtherLabel => Ok(ProofAtom::OtherLabel),
-        xd_goals::Atom::Text(text) => {
+        Atom::Text(text) => {
             let _characters = text.as_str();
-            Ok(ProofAtom::Text(text.share()?))
         }
-        xd_goals::Atom::OtherText => Ok(ProofAtom::OtherText),
+        _ => {}
     }
+    share(atom)
 }
 
 /// The step, with a proof's numbers.
@@ -91,7 +88,7 @@ fn write_case(
 {
     let steps = table_steps(alloc, table, choice.root)?;
     let steps = write_steps(alloc, goals, heads, &steps)?;
-    let atom = write_atom(&choice.atom)?;
+    let atom = share_atom(&choice.atom)?;
     Ok(ReadCase { head, atom, steps })
 }
 

@@ -3,7 +3,7 @@
 ghost use Rattle.std.specs.Prelude.{◌≡◌, ◌<◌, ℕ, true, map, length, IfOk, OnOk};
 ghost use Rattle.std.specs.List.{AllByRecursion, AllZip, list_any};
 ghost use Rattle.xd_auto.specs.Automaton.{Automaton, IsState};
-ghost use Rattle.xd_rules.specs.Moves.{AreBelow, is_last_in};
+ghost use Rattle.xd_state_heads.specs.Moves.{AreBelow, is_last_in};
 ghost use Rattle.xd_goals.specs.Rows.{row_at};
 ghost use Rattle.xd_heads.specs.CellsView.{CellsView};
 ghost use Rattle.xd_heads.specs.Growing.{GrowsTypes};

@@ -18,7 +18,7 @@ use Rattle.xd_parse.proofs.Sure.{sure}
 use Rattle.xd_parse.proofs.Spelled.{read_within}
 use Rattle.xd_parse.proofs.ValueDepthLemmas.{all_within}
 use Rattle.xd_parse_trees.proofs.Depth.{AnyWithin}
-use Rattle.xd_meaning.specs.Consistent.{numbered}
+use Rattle.xd_rules.specs.Rules.{numbered}
 use Rattle.xd_meaning.specs.Breach.{Lined}
 use Rattle.xd_proof.specs.Lines.{SpellsNumber}
 use Rattle.xd_proof.specs.Parts.{Part, type_part, left_part, right_part, SpellsPart, SpellParts}

@@ -7,7 +7,7 @@ use Rattle.xd_syntax.specs.Table.{Row}
 use Rattle.xd_syntax.specs.SoundTables.{IsTypeAt}
 use Rattle.xd_syntax.specs.Kept.{ProgramTable}
 use Rattle.xd_syntax.specs.declared.types.TypeId.{TypeId}
-use Rattle.xd_meaning.specs.Consistent.{Case}
+use Rattle.xd_rules.specs.Rules.{Case}
 use Rattle.xd_proof.specs.declared.cases.ReadCase.{ReadCase}
 use Rattle.xd_proof.specs.Cases.{IsCase}
 use Rattle.xd_proof.specs.Lines.{space, IsFreeOf, SpellsNumber}

@@ -26,7 +26,7 @@ use Rattle.xd_parse_trees.specs.Means.{IsTypeText}
 use Rattle.xd_parse_trees.proofs.Kept.{KeepsRows-refl}
 use Rattle.xd_parse.proofs.Sure.{texts_mean_one_thing}
 use Rattle.xd_type_laws.proofs.TheLaw.{types_read_back}
-use Rattle.xd_meaning.specs.Consistent.{numbered}
+use Rattle.xd_rules.specs.Rules.{numbered}
 use Rattle.xd_proof.specs.Lines.{SpellsNumber}
 use Rattle.xd_proof.specs.TypeTexts.{SpellsType}
 use Rattle.xd_proof.proofs.OneText.{type_one}

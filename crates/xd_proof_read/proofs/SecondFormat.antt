@@ -4,7 +4,7 @@ use Rattle.std.proofs.Common.{◌≡◌, ℕ, suc, ◌+◌, List, [], ◌∷◌,
 use Rattle.std.specs.Prelude.{codes}
 use Rattle.std.specs.List.{AllZip, AllByRecursion}
 use Rattle.xd_syntax.specs.Tree.{Tree}
-use Rattle.xd_meaning.specs.Consistent.{Case, numbered}
+use Rattle.xd_rules.specs.Rules.{Case, numbered}
 use Rattle.xd_proof.specs.Lines.{SpellsNumber}
 use Rattle.xd_proof.specs.Parts.{Part, first_title, second_title, type_count, type_part, goal_count, goal_part, left_part, right_part, empty_part, case_part, end_part, Follows, SpellsPart, SpellParts}
 use Rattle.xd_proof.specs.Form.{Block, empty_parts, block_parts, blocks_from, goal_list, AreNamed, NamesTypes, NameTypes}

@@ -11,7 +11,7 @@ use Rattle.xd_syntax.specs.declared.types.TypeId.{TypeId}
 use Rattle.xd_syntax.specs.Kept.{ProgramTable, AddsTypes, program_tree}
 use Rattle.xd_syntax.specs.ShallowTables.{AddsWithin}
 use Rattle.xd_syntax.specs.Shallow.{nesting_limit}
-use Rattle.xd_meaning.specs.Consistent.{numbered}
+use Rattle.xd_rules.specs.Rules.{numbered}
 use Rattle.xd_proof.specs.Lines.{SpellsNumber}
 use Rattle.xd_proof.specs.TypeTexts.{SpellsType}
 use Rattle.xd_proof_read.specs.declared.naming.Naming.{Naming}

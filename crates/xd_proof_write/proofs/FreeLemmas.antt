@@ -12,7 +12,9 @@ use Rattle.xd_doc.proofs.Lists.{all_append}
 use Rattle.xd_syntax.specs.Tree.{Tree, Empty, Text, Words, Name, Elem, Seq, Alt, Star, Plus, Opt, Val, is_empty}
 use Rattle.xd_syntax.specs.Proper.{IsProperTree}
 use Rattle.xd_syntax.specs.TypeText.{Level, any_type_level, sequence_level, postfix_level, primary_level, parted, sequence_wants, alternative_wants, postfix_wants, in_parentheses, barred, labels_text, excepted_text, class_text, quoted, text_at_level}
-use Rattle.xd_meaning.specs.Consistent.{Atom, this_label, other_label, this_text, other_text, ChoiceTree, settles_content, settles_rest, split_on, Case}
+use Rattle.xd_rules.specs.declared.atom.Atom.{Atom}
+use Rattle.xd_rules.specs.declared.atom.Atom.TheVariants as atoms
+use Rattle.xd_rules.specs.Rules.{ChoiceTree, settles_content, settles_rest, split_on, Case}
 use Rattle.xd_proof.specs.Lines.{line_feed, space, spaced, IsFreeOf, IsNumber}
 use Rattle.xd_proof.specs.Parts.{atom_word, IsAtom, tree_words, HasNumbers, case_words}
 use Rattle.xd_proof.proofs.Unique.{digits_model}
@@ -129,10 +131,10 @@ type_line T p = text_line any_type_level T p
 
 -- ---- cases
 atom_line : (a : Atom) → IsAtom a → IsLine (atom_word a)
-atom_line (this_label l) h = word_line l h
-atom_line other_label h = is_line (codes "~") refl
-atom_line (this_text s) h = quoted_line s
-atom_line other_text h = is_line (codes "$") refl
+atom_line (atoms.Label l) h = word_line l h
+atom_line atoms.OtherLabel h = is_line (codes "~") refl
+atom_line (atoms.Text s) h = quoted_line s
+atom_line atoms.OtherText h = is_line (codes "$") refl
 
 tree_lines : (t : ChoiceTree) → HasNumbers t → AllByRecursion IsLine (tree_words t)
 tree_lines (settles_content n) h = (is_line (codes "c") refl, (decimal_line n h, tt))

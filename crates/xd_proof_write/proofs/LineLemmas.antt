@@ -9,13 +9,14 @@ use Rattle.xd_syntax.specs.TypeText.{type_text}
 use Rattle.xd_syntax.specs.Table.{Row}
 use Rattle.xd_syntax.specs.SoundTables.{IsTypeAt}
 use Rattle.xd_syntax.specs.declared.types.TypeId.{TypeId}
-use Rattle.xd_meaning.specs.Consistent.{ChoiceTree, settles_content, settles_rest, split_on, Case, Goal}
+use Rattle.xd_rules.specs.Rules.{ChoiceTree, settles_content, settles_rest, split_on, Case}
+use Rattle.xd_meaning.specs.Consistent.{Goal}
 use Rattle.xd_meaning.specs.Breach.{Lined, goals_of}
 use Rattle.xd_proof.specs.Lines.{line_feed, space, each_ended, spaced}
 use Rattle.xd_proof.specs.Parts.{Part, left_part, right_part, case_part, atom_word, tree_words}
 use Rattle.xd_proof.specs.Form.{Block, empty_parts, block_parts, blocks_from, types_from}
 use Rattle.xd_proof.specs.Steps.{steps_of}
-use Rattle.xd_proof.specs.Cases.{IsCase, atom_of}
+use Rattle.xd_proof.specs.Cases.{IsCase}
 use Rattle.xd_proof.specs.declared.cases.ReadCase.{ReadCase}
 use Rattle.xd_proof.specs.Goals.{IsGoalAt, AreGoalsAt}
 use Rattle.xd_proof.specs.declared.proof.ProofGoal.{ProofGoal}
@@ -59,7 +60,7 @@ case_shape d a f =
 
 case_written : (m : ReadCase) (c : Case) → IsCase m c → case_line m ≡ line_of (case_part c) ++ line_feed ∷ []
 case_written m c i =
-    ap (λ n. codes "case " ++ (decimal n ++ space ∷ (atom_word (atom_of m.atom) ++ (flat_map step_text (m.steps).items ++ line_feed ∷ [])))) i.head
+    ap (λ n. codes "case " ++ (decimal n ++ space ∷ (atom_word m.atom ++ (flat_map step_text (m.steps).items ++ line_feed ∷ [])))) i.head
     ∙ ap (λ a. codes "case " ++ (decimal c.head ++ space ∷ (atom_word a ++ (flat_map step_text (m.steps).items ++ line_feed ∷ [])))) i.atom
     ∙ ap (λ s. codes "case " ++ (decimal c.head ++ space ∷ (atom_word c.atom ++ (s ++ line_feed ∷ [])))) (ap (flat_map step_text) i.steps ∙ sym (steps_words c.choice))
     ∙ case_shape (decimal c.head) (atom_word c.atom) (behind_spaces (tree_words c.choice))

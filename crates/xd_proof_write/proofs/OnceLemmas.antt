@@ -2,7 +2,7 @@
 use Rattle.std.proofs.Common.{◌≡◌, ℕ, suc, ◌+◌, Bool, true, false, not, cond, ◌||◌, filter, List, [], ◌∷◌, ◌++◌, map, Some, refl, ap, sym, subst, ◌∙◌, arith, add-one, append-nil, append_assoc}
 use Rattle.std.specs.List.{AllByRecursion, list_any, position_or_len, fold}
 use Rattle.std.proofs.lemmas.List.Elements.{filter-append}
-use Rattle.xd_meaning.specs.Consistent.{numbered}
+use Rattle.xd_rules.specs.Rules.{numbered}
 use Rattle.xd_proof_write.specs.SecondText.{each_once, number_among}
 
 -- ---- whether one passes, and the first that does

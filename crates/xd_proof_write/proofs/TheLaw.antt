@@ -7,7 +7,8 @@ use Rattle.std.proofs.lemmas.List.{length-map}
 use Rattle.xd_doc.proofs.Lists.{all_append, all_front, all_back}
 use Rattle.xd_syntax.specs.Tree.{Tree}
 use Rattle.xd_syntax.specs.TypeText.{type_text}
-use Rattle.xd_meaning.specs.Consistent.{Case, Goal}
+use Rattle.xd_rules.specs.Rules.{Case}
+use Rattle.xd_meaning.specs.Consistent.{Goal}
 use Rattle.xd_meaning.specs.Breach.{goals_of}
 use Rattle.xd_laws.specs.SameTree.{same_tree}
 use Rattle.xd_laws.proofs.SameTrees.{same_tree-is, tree_same}

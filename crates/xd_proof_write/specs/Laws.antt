@@ -5,7 +5,8 @@ use Rattle.xd_syntax.specs.Tree.{Tree, uses_only}
 use Rattle.xd_syntax.specs.Proper.{IsProperTree}
 use Rattle.xd_syntax.specs.Shallow.{nesting_limit}
 use Rattle.xd_syntax.specs.TypeText.{depth}
-use Rattle.xd_meaning.specs.Consistent.{Case, Goal}
+use Rattle.xd_rules.specs.Rules.{Case}
+use Rattle.xd_meaning.specs.Consistent.{Goal}
 use Rattle.xd_meaning.specs.Breach.{Lined, goals_of}
 use Rattle.xd_laws.specs.SameTree.{same_tree}
 use Rattle.xd_type_laws.specs.ReadBackLaws.{IsMerged}

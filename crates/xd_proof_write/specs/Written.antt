@@ -10,7 +10,6 @@ use Rattle.xd_syntax.specs.TypeText.{type_text}
 use Rattle.xd_syntax.specs.declared.types.TypeId.{TypeId}
 use Rattle.xd_proof.specs.Lines.{line_feed, space}
 use Rattle.xd_proof.specs.Parts.{atom_word}
-use Rattle.xd_proof.specs.Cases.{atom_of}
 use Rattle.xd_proof.specs.Steps.{step_letter, step_number}
 use Rattle.xd_proof.specs.declared.cases.ReadCase.{ReadCase}
 use Rattle.xd_proof.specs.declared.steps.Step.{Step}
@@ -27,7 +26,7 @@ abbrev pub step_text : Step → List ℕ
 step_text s = space ∷ (step_letter s ++ space ∷ decimal (step_number s))
 
 abbrev pub case_line : ReadCase → List ℕ
-case_line c = codes "case " ++ (decimal c.head ++ space ∷ (atom_word (atom_of c.atom) ++ (flat_map step_text (c.steps).items ++ line_feed ∷ [])))
+case_line c = codes "case " ++ (decimal c.head ++ space ∷ (atom_word c.atom ++ (flat_map step_text (c.steps).items ++ line_feed ∷ [])))
 
 abbrev pub empty_line : Option ℕ → List ℕ
 empty_line None = []

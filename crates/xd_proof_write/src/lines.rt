@@ -2,13 +2,12 @@
 
 ghost use Rattle.std.specs.Prelude.{◌≡◌, ◌∷◌, [], ◌++◌, OnOk, flat_map};
 ghost use Rattle.xd_proof.specs.Parts.{atom_word};
-ghost use Rattle.xd_proof.specs.Cases.{atom_of};
 ghost use Rattle.xd_proof.specs.Steps.{step_letter, step_number};
 ghost use Rattle.xd_proof_write.specs.Written.{number_line, step_text, case_line, empty_line};
 
 use itoa::Buffer;
 use xd_doc::NoMemory;
-use xd_proof::{ProofAtom, ReadCase, Step};
+use xd_proof::{Atom, ReadCase, Step};
 use xd_write::write_text;
 
 /// Appends a line of a word and a number.
@@ -56,14 +55,14 @@ fn write_case(case: &ReadCase, out: &mut Vec<u8>) -> Result<(), NoMemory>
     Ok(())
 }
 
-fn write_atom(atom: &ProofAtom, out: &mut Vec<u8>) -> Result<(), NoMemory>
-    ensures { OnOk result (out.new.items ≡ out.old.items ++ atom_word (atom_of atom.now)) }
+fn write_atom(atom: &Atom, out: &mut Vec<u8>) -> Result<(), NoMemory>
+    ensures { OnOk result (out.new.items ≡ out.old.items ++ atom_word atom.now) }
 {
     match atom {
-        ProofAtom::Label(label) => out.extend_from_slice(label.as_str().as_bytes())?,
-        ProofAtom::OtherLabel => out.push(b'~')?,
-        ProofAtom::Text(text) => write_text(text.as_str(), out)?,
-        ProofAtom::OtherText => out.push(b'$')?,
+        Atom::Label(label) => out.extend_from_slice(label.as_str().as_bytes())?,
+        Atom::OtherLabel => out.push(b'~')?,
+        Atom::Text(text) => write_text(text.as_str(), out)?,
+        Atom::OtherText => out.push(b'$')?,
     }
     Ok(())
 }

@@ -11,7 +11,7 @@ use Rattle.xd_rules.specs.declared.atom.Atom.{Atom}
 use Rattle.xd_rules.specs.declared.atom.Atom.TheVariants.{Label, OtherLabel, Text, OtherText}
 use Rattle.xd_rules.specs.Heads.{element_in, text_in, Named, matches, all_atoms}
 use Rattle.xd_rules.specs.Listed.{AreAmong}
-use Rattle.xd_rules.proofs.Names.{kept_all}
+use Rattle.xd_rules.proofs.NamesInOrder.{kept_all}
 
 filter-map : {X Y : Type 0} (p : Y → Bool) (f : X → Y) (xs : List X) → filter p (map f xs) ≡ map f (filter (λ x. p (f x)) xs)
 filter-map p f [] = refl

@@ -8,7 +8,9 @@ use Rattle.xd_doc.proofs.SortedNames.{same_is, is_same}
 use Rattle.xd_rules.specs.declared.atom.Atom.{Atom}
 use Rattle.xd_rules.specs.declared.atom.Atom.TheVariants.{Label, OtherLabel, Text, OtherText}
 use Rattle.xd_rules.specs.Members.{IsOneOf}
-use Rattle.xd_rules.specs.Heads.{HeadKind, element_in, text_in, Head, Named, AreNames, takes_label, takes_text, matches, all_atoms, atoms_of, label_names, text_names, is_text_atom}
+use Rattle.xd_rules.specs.Heads.{HeadKind, element_in, text_in, Head, Named, matches, all_atoms, atoms_of, labels_of, texts_of}
+use Rattle.xd_rules.specs.Listed.{AreNames}
+use Rattle.xd_rules.specs.Meaning.{takes_label, takes_text, is_text_atom}
 use Rattle.xd_rules.proofs.Members.{one_of-filter, one_of-any, any-one_of, one_of-to_flat_map, one_of-append_left, one_of-append_right, one_of-map}
 
 -- the atom of a label and of a text, where some are named
@@ -52,7 +54,7 @@ unnamed_class : (l : List ℕ) (c : NameClass) (all : List (List ℕ)) → AreAl
 unnamed_class l c all are e = rw (unnamed_outside l c.names all are e) (except_only c.except)
 
 -- a head matches the label's atom exactly where it takes the label
-pub matches-label_atom : (named : Named) (l : List ℕ) (k : HeadKind) → AreAllNamed (label_names k) named.labels → matches k (label_atom named l) ≡ takes_label k l
+pub matches-label_atom : (named : Named) (l : List ℕ) (k : HeadKind) → AreAllNamed (labels_of k) named.labels → matches k (label_atom named l) ≡ takes_label k l
 matches-label_atom named l (text_in c) are = go (is_named named.labels l)
   where
     go : (b : Bool) → matches (text_in c) (label_atom_by b l) ≡ false
@@ -64,7 +66,7 @@ matches-label_atom named l (element_in c) are = go (is_named named.labels l) ref
     go true e = refl
     go false e = unnamed_class l c named.labels are e
 
-pub matches-text_atom : (named : Named) (t : List ℕ) (k : HeadKind) → AreAllNamed (text_names k) named.texts → matches k (text_atom named t) ≡ takes_text k t
+pub matches-text_atom : (named : Named) (t : List ℕ) (k : HeadKind) → AreAllNamed (texts_of k) named.texts → matches k (text_atom named t) ≡ takes_text k t
 matches-text_atom named t (element_in c) are = go (is_named named.texts t)
   where
     go : (b : Bool) → matches (element_in c) (text_atom_by b t) ≡ false
@@ -91,13 +93,13 @@ one_of-text_atom named t = one_of-append_right (text_atom named t) (map Label na
     go false e = one_of-append_right OtherText (map Text named.texts) (OtherText ∷ []) (inl refl)
 
 -- the label's atom is one of those of a head that takes the label
-pub one_of-atoms_of_label : {S : Type 0} (named : Named) (l : List ℕ) (h : Head S) → AreAllNamed (label_names h.kind) named.labels → takes_label h.kind l ≡ true
-    → IsOneOf (label_atom named l) (atoms_of named h)
+pub one_of-atoms_of_label : {S : Type 0} (named : Named) (l : List ℕ) (h : Head S) → AreAllNamed (labels_of h.kind) named.labels → takes_label h.kind l ≡ true
+    → IsOneOf (label_atom named l) (atoms_of named h.kind)
 one_of-atoms_of_label named l h are t =
     one_of-filter (λ a. matches h.kind a) (label_atom named l) (all_atoms named) (one_of-label_atom named l) (matches-label_atom named l h.kind are ∙ t)
 
-pub one_of-atoms_of_text : {S : Type 0} (named : Named) (t : List ℕ) (h : Head S) → AreAllNamed (text_names h.kind) named.texts → takes_text h.kind t ≡ true
-    → IsOneOf (text_atom named t) (atoms_of named h)
+pub one_of-atoms_of_text : {S : Type 0} (named : Named) (t : List ℕ) (h : Head S) → AreAllNamed (texts_of h.kind) named.texts → takes_text h.kind t ≡ true
+    → IsOneOf (text_atom named t) (atoms_of named h.kind)
 one_of-atoms_of_text named t h are e =
     one_of-filter (λ a. matches h.kind a) (text_atom named t) (all_atoms named) (one_of-text_atom named t) (matches-text_atom named t h.kind are ∙ e)
 
@@ -116,14 +118,14 @@ text_atom_is_text named t = go (is_named named.texts t)
     go false = refl
 
 -- every head's names are among the names of the heads
-pub labels_are_named : {S : Type 0} (hs : List (Head S)) (named : Named) → AreNames hs named → (h : Head S) → IsOneOf h hs → AreAllNamed (label_names h.kind) named.labels
+pub labels_are_named : {S : Type 0} (hs : List (Head S)) (named : Named) → AreNames hs named → (h : Head S) → IsOneOf h hs → AreAllNamed (labels_of h.kind) named.labels
 labels_are_named {S} hs named are h m l n =
-    let f : Head S → List (List ℕ) = λ (k : Head S). label_names k.kind in
+    let f : Head S → List (List ℕ) = λ (k : Head S). labels_of k.kind in
     are.labels.same l ∙ names_one_of l (flat_map f hs) (one_of-to_flat_map f l h hs m n)
 
-pub texts_are_named : {S : Type 0} (hs : List (Head S)) (named : Named) → AreNames hs named → (h : Head S) → IsOneOf h hs → AreAllNamed (text_names h.kind) named.texts
+pub texts_are_named : {S : Type 0} (hs : List (Head S)) (named : Named) → AreNames hs named → (h : Head S) → IsOneOf h hs → AreAllNamed (texts_of h.kind) named.texts
 texts_are_named {S} hs named are h m l n =
-    let f : Head S → List (List ℕ) = λ (k : Head S). text_names k.kind in
+    let f : Head S → List (List ℕ) = λ (k : Head S). texts_of k.kind in
     are.texts.same l ∙ names_one_of l (flat_map f hs) (one_of-to_flat_map f l h hs m n)
 
 -- an atom is matched as the labels, or the texts, that it stands for

@@ -1,11 +1,9 @@
 pub mod Lists
-pub mod IsHeadNamedLemmas
 pub mod Results
-pub mod Sides
-pub mod Names
 pub mod Members
+pub mod NamesInOrder
+pub mod AllAtomsLemmas
 pub mod Walk
 pub mod Atoms
 pub mod Soundness
 pub mod Separation
-pub mod AllAtomsLemmas

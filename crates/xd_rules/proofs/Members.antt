@@ -4,7 +4,8 @@ use Rattle.std.specs.List.{list_any, filter, flat_map, AllByRecursion, slice_get
 use Rattle.xd_rules.specs.declared.atom.Atom.{Atom}
 use Rattle.xd_rules.specs.Members.{IsOneOf}
 use Rattle.xd_rules.specs.Heads.{Head, Named, atoms_of}
-use Rattle.xd_rules.specs.Rules.{head_number, wanted_cases, keyed}
+use Rattle.xd_rules.specs.Rules.{numbered, atoms_from}
+use Rattle.xd_rules.specs.Meaning.{keyed}
 
 pub one_of-append_left : {X : Type 0} (x : X) (xs ys : List X) → IsOneOf x xs → IsOneOf x (xs ++ ys)
 one_of-append_left x [] ys h = absurd h
@@ -95,23 +96,27 @@ any-one_of p x (y ∷ xs) h t =
     go true r = refl
     go false r = r
 
-pub one_of-head_number : {S : Type 0} (h : Head S) (hs : List (Head S)) (j : ℕ) → head_number hs j ≡ Some h → IsOneOf h hs
-one_of-head_number h hs zero e = absurd (cc)
-one_of-head_number h hs (suc j) e = one_of-get h hs j e
+pub one_of-numbered : {X : Type 0} (x : X) (xs : List X) (n : ℕ) → numbered xs n ≡ Some x → IsOneOf x xs
+one_of-numbered x xs zero e = absurd (cc)
+one_of-numbered x xs (suc n) e = one_of-get x xs n e
 
--- each head's atoms are wanted, under its number
-pub one_of-wanted : {S : Type 0} (named : Named) (k : ℕ) (hs : List (Head S)) (i : ℕ) (h : Head S) (a : Atom) (n : ℕ)
-    → slice_get hs i ≡ Some h → IsOneOf a (atoms_of named h) → n ≡ k + i → IsOneOf (keyed n a) (wanted_cases named k hs)
-one_of-wanted named k [] i h a n e m q = absurd (cc)
-one_of-wanted named k (g ∷ hs) zero h a n e m q =
-    let same : g ≡ h = cc in
-    let nk : k ≡ n = omega arith in
-    let here : IsOneOf a (atoms_of named g) = subst (λ w. IsOneOf a (atoms_of named w)) (sym same) m in
-    one_of-append_left (keyed n a) (map (keyed k) (atoms_of named g)) (wanted_cases named (suc k) hs)
-    (subst (λ (w : ℕ). IsOneOf (keyed w a) (map (keyed k) (atoms_of named g))) nk (one_of-map (keyed k) a (atoms_of named g) here))
-one_of-wanted named k (g ∷ hs) (suc i) h a n e m q =
-    one_of-append_right (keyed n a) (map (keyed k) (atoms_of named g)) (wanted_cases named (suc k) hs)
-    (one_of-wanted named (suc k) hs i h a n e m (omega arith))
+-- an atom of a head is wanted with the head's number
+pub one_of-wanted : {S : Type 0} (names : Named) (n : ℕ) (hs : List (Head S)) (h : Head S) (a : Atom) → IsOneOf h hs → IsOneOf a (atoms_of names h.kind)
+    → (k : ℕ) × (numbered hs (suc k) ≡ Some h) × IsOneOf (keyed (n + k) a) (atoms_from names n hs)
+one_of-wanted names n [] h a k m = absurd k
+one_of-wanted {S} names n (g ∷ hs) h a (inl e) m =
+    let here : IsOneOf (keyed n a) (map (keyed n) (atoms_of names g.kind)) =
+    one_of-map (keyed n) a (atoms_of names g.kind) (subst (λ (w : Head S). IsOneOf a (atoms_of names w.kind)) (sym e) m) in
+    let zero_behind : n ≡ n + 0 = omega arith in
+    (0, ap Some e, subst (λ i. IsOneOf (keyed i a) (atoms_from names n (g ∷ hs))) zero_behind (one_of-append_left (keyed n a) (map (keyed n) (atoms_of names g.kind)) (atoms_from names (n + 1) hs) here))
+one_of-wanted names n (g ∷ hs) h a (inr k) m =
+    let r = one_of-wanted names (n + 1) hs h a k m in
+    let one_more : n + 1 + r.0 ≡ n + suc r.0 = omega arith in (
+      suc r.0,
+      r.1,
+      subst (λ i. IsOneOf (keyed i a) (atoms_from names n (g ∷ hs))) one_more
+          (one_of-append_right (keyed (n + 1 + r.0) a) (map (keyed n) (atoms_of names g.kind)) (atoms_from names (n + 1) hs) r.2),
+    )
 
 pub only_one : {X : Type 0} (x y : X) → IsOneOf x (y ∷ []) → x ≡ y
 only_one x y (inl e) = sym e

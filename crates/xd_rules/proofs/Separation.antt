@@ -3,10 +3,11 @@ use Rattle.std.proofs.Common.{ℕ, ◌≡◌, Bool, true, false, List, ◌++◌,
 use Rattle.std.specs.List.{AllByRecursion}
 use Rattle.xd_doc.specs.Document.{Document, empty, text}
 use Rattle.xd_rules.specs.declared.atom.Atom.{Atom}
-use Rattle.xd_rules.specs.Members.{IsOneOf, NoneOf}
-use Rattle.xd_rules.specs.Heads.{Head, takes_text, matches}
-use Rattle.xd_rules.specs.Rules.{Claim, right_heads}
-use Rattle.xd_rules.specs.Meaning.{IsMeaning, Separates}
+use Rattle.xd_rules.specs.Members.{IsOneOf}
+use Rattle.xd_rules.specs.Listed.{NoneOf}
+use Rattle.xd_rules.specs.Heads.{Head, matches}
+use Rattle.xd_rules.specs.Rules.{Claim}
+use Rattle.xd_rules.specs.Meaning.{IsMeaning, Separates, right_heads, takes_text}
 use Rattle.xd_rules.proofs.Members.{one_of-append_left, one_of-append_right, one_of-to_flat_map, one_of-all}
 
 module _ {S : Type 0} (Accepts : S → Document → Type 0) (heads : S → List (Head S)) (is_last : S → Bool) (meaning : IsMeaning Accepts heads is_last) where

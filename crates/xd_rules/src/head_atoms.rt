@@ -3,7 +3,7 @@
 ghost use Rattle.std.specs.Prelude.{◌≡◌, ◌++◌, ◌∷◌, ℕ, Bool, List, [], false, map, true, IfOk, OnOk};
 ghost use Rattle.std.specs.List.{filter};
 ghost use Rattle.xd_doc.specs.Classes.{class_has};
-ghost use Rattle.xd_rules.specs.Heads.{all_atoms, element_in, matches, text_in};
+ghost use Rattle.xd_rules.specs.Heads.{atoms_of, element_in, text_in};
 ghost use Rattle.xd_rules.specs.Listed.{AreAmong};
 ghost use Rattle.xd_rules.specs.declared.atom.Atom.{Atom};
 
@@ -12,7 +12,7 @@ use std::alloc::Global;
 use xd_doc::{Class, Label, NoMemory, Text, Words};
 
 /// A class of labels or of texts, and the atoms of its kind.
-pub(crate) trait Names: Drop {
+pub trait Names: Drop {
     /// A label or a text.
     type Name: Drop;
 
@@ -134,7 +134,7 @@ impl Names for Words {
 /// refused.
 pub fn label_atoms(alloc: Global, class: &Class, unnamed: &Class) -> Result<Vec<Atom>, NoMemory>
     requires { AreAmong class.now.names unnamed.now.names }
-    ensures { IfOk result (λ atoms. (texts : List (List ℕ)) → atoms.items ≡ filter (matches (element_in class.now)) (all_atoms (record { labels = unnamed.now.names; texts = texts }))) }
+    ensures { IfOk result (λ atoms. (texts : List (List ℕ)) → atoms.items ≡ atoms_of (record { labels = unnamed.now.names; texts = texts }) (element_in class.now)) }
 {
     let _names = class.names();
     let _all = unnamed.names();
@@ -145,7 +145,7 @@ pub fn label_atoms(alloc: Global, class: &Class, unnamed: &Class) -> Result<Vec<
 /// The atoms of a class of texts, in the same way. Fails only where memory is refused.
 pub fn text_atoms(alloc: Global, words: &Words, unnamed: &Words) -> Result<Vec<Atom>, NoMemory>
     requires { AreAmong words.now.names unnamed.now.names }
-    ensures { IfOk result (λ atoms. (labels : List (List ℕ)) → atoms.items ≡ filter (matches (text_in words.now)) (all_atoms (record { labels = labels; texts = unnamed.now.names }))) }
+    ensures { IfOk result (λ atoms. (labels : List (List ℕ)) → atoms.items ≡ atoms_of (record { labels = labels; texts = unnamed.now.names }) (text_in words.now)) }
 {
     let _names = words.texts();
     let _all = unnamed.texts();

@@ -4,7 +4,7 @@ use Rattle.std.specs.List.{AllByRecursion}
 use Rattle.xd_syntax.specs.NameFaults.{known_types}
 use Rattle.xd_syntax.specs.Program.{ProgramTree, names_of}
 use Rattle.xd_meaning.specs.Breach.{Lined, goals_of}
-use Rattle.xd_meaning.specs.Consistent.{Claim}
+use Rattle.xd_meaning.specs.Consistent.{ClaimHolds}
 use Rattle.xd_parse_trees.specs.Means.{IsProgramText}
 use Rattle.xd_proof.specs.Form.{IsProofText}
 use Rattle.xd_proof.specs.TypeTexts.{SpellsType}
@@ -18,7 +18,7 @@ pub record ProvesClaim (definitions text line : List ℕ) : Type 0 where
   pub defined : IsProgramText definitions program
   pub goals : List Lined
   pub spelled : IsProofText (SpellsType (known_types program)) text goals
-  pub holds : AllByRecursion (Claim (names_of program)) (goals_of goals)
+  pub holds : AllByRecursion (ClaimHolds (names_of program)) (goals_of goals)
   pub written : (first : Lined) (others : List Lined) → goals ≡ first ∷ others → line ≡ claim_text first.goal
 
 -- the goals that a proof text spells, written in the second format

@@ -6,7 +6,7 @@ use Rattle.xd_doc.proofs.StoredLemmas.{Keeps-trans}
 use Rattle.xd_auto.specs.Automaton.{Automaton, accepts}
 use Rattle.xd_auto.specs.declared.auto.State.{State}
 use Rattle.std.specs.Result.{IsErr}
-use Rattle.xd_rules.specs.Members.{SomeOf}
+use Rattle.xd_rules.specs.Listed.{SomeOf}
 use Rattle.xd_goals.specs.Verdicts.{IsVerdict}
 use Rattle.std.proofs.Common.{[], ◌∷◌, inl, inr, refl, subst, ◌≡◌, ◌∙◌, Bool, Ok, Err, Some, None, Option, Result, true, false, sym}
 use Rattle.std.proofs.lemmas.Result.{IfOk-from_err}

@@ -1,6 +1,6 @@
 use Rattle.std.proofs.Common.{ap, subst, refl, ◌∙◌, rules, ℕ, Option}
 use Rattle.xd_goals.specs.Kept.{view_of}
-use Rattle.xd_rules.specs.Moves.{IsInOrder}
+use Rattle.xd_state_heads.specs.Moves.{IsInOrder}
 use Rattle.xd_goals.specs.Rows.{GoalRow, Leads}
 use Rattle.xd_goals.proofs.GrowsByLemmas.{Grows-same, Leads-begins}
 use Rattle.xd_goals.proofs.AreLinkedLemmas.{linked_now, row_read, IsLinkedNow}

@@ -1,11 +1,9 @@
-use Rattle.xd_goals.proofs.GrowsByLemmas.{Grows-same}
-use Rattle.xd_goals.specs.Kept.{view_of}
+use Rattle.xd_goals.proofs.GrowsByLemmas.{Grows-same, found_claim, claim_within}
+use Rattle.xd_goals.specs.Kept.{view_of, found_at}
 use Rattle.std.proofs.Common.{◌≡◌, ◌∙◌, sym, ap, None}
-use Rattle.xd_rules.specs.Moves.{claim_with}
+use Rattle.xd_state_heads.specs.Moves.{claim_with}
 use Rattle.xd_goals.specs.Rows.{claim_key}
-use Rattle.xd_goals.specs.Kept.{found_at}
 use Rattle.xd_goals.proofs.AreLinkedLemmas.{added_grows, added_states, added_linked, added_index, added_claim, added_there}
-use Rattle.xd_goals.proofs.GrowsByLemmas.{found_claim, claim_within}
 use Rattle.xd_goals.proofs.Itself.{nodes_longer}
 use Rattle.xd_goals.proofs.goals.find_or_add.Goals as goal
 

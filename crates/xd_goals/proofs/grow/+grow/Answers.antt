@@ -1,7 +1,7 @@
 use Rattle.std.proofs.lemmas.Result.{IfOk-from_err}
 use Rattle.std.proofs.Common.{◌≡◌, ◌∙◌, arith}
 use Rattle.xd_goals.specs.Kept.{view_of}
-use Rattle.xd_rules.specs.Moves.{with_state}
+use Rattle.xd_state_heads.specs.Moves.{with_state}
 use Rattle.xd_goals.specs.Trees.{IsGrown}
 use Rattle.xd_goals.proofs.HasGrownLemmas.{can_grow-then, grown-step, grown-then}
 use Rattle.xd_goals.proofs.Trees.{HasOpenTree-within, content_path, open_within-grows, rest_path, split_tree}

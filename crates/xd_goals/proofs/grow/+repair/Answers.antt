@@ -2,13 +2,13 @@ use Rattle.std.proofs.lemmas.Result.{IfOk-from_err}
 use Rattle.std.proofs.Common.{ℕ, ◌≡◌, List, Some, sym, ap, subst, ◌∙◌, arith}
 use Rattle.std.specs.List.{slice_get}
 use Rattle.xd_auto.specs.declared.auto.State.{State}
-use Rattle.xd_rules.specs.declared.heads.Side.{Side}
+use Rattle.xd_state_heads.specs.declared.heads.Side.{Side}
 use Rattle.xd_goals.specs.declared.goals.Goals.{Goals}
 use Rattle.xd_goals.specs.declared.grow.Task.{Task}
 use Rattle.xd_goals.specs.declared.table.ChoiceNode.{ChoiceNode}
 use Rattle.xd_goals.specs.declared.table.ChoiceNode.TheVariants.{Split}
 use Rattle.xd_goals.specs.Kept.{view_of}
-use Rattle.xd_rules.specs.Moves.{with_state}
+use Rattle.xd_state_heads.specs.Moves.{with_state}
 use Rattle.xd_goals.specs.Trees.{HasTree, IsGrown, IsSplitAt}
 use Rattle.xd_goals.proofs.GrowsByLemmas.{Grows-then}
 use Rattle.xd_goals.proofs.HasGrownLemmas.{can_grow-then, grown-same, grown-step, grown-then}

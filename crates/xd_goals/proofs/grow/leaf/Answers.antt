@@ -1,6 +1,6 @@
 use Rattle.std.proofs.Common.{arith, subst, sym}
 use Rattle.xd_goals.specs.Kept.{AreThese, Grows, view_of}
-use Rattle.xd_rules.specs.Moves.{IsInOrder, claim_with}
+use Rattle.xd_state_heads.specs.Moves.{IsInOrder, claim_with}
 use Rattle.xd_goals.proofs.GrowsByLemmas.{Grows-then, Grows-weaken, claim_at-grows}
 use Rattle.xd_goals.proofs.grow.leaf.Goals as goal
 use Rattle.xd_goals.proofs.grow.leaf.Goals.{After-find_or_add}

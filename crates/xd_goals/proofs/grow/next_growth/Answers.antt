@@ -1,7 +1,7 @@
 use Rattle.std.proofs.lemmas.Result.{IfOk-from_err}
 use Rattle.std.proofs.Common.{arith}
 use Rattle.xd_goals.specs.Kept.{view_of}
-use Rattle.xd_rules.specs.Moves.{claim_with}
+use Rattle.xd_state_heads.specs.Moves.{claim_with}
 use Rattle.xd_goals.specs.Standing.{IsSeparatedBy}
 use Rattle.xd_goals.proofs.GrowsByLemmas.{Grows-then}
 use Rattle.xd_goals.proofs.HasGrownLemmas.{grown-same, grown-step, grown-then}

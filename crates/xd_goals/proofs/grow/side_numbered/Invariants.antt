@@ -1,6 +1,6 @@
 use Rattle.std.proofs.Common.{ℕ, ◌≡◌, ◌<◌, length, Some}
 use Rattle.std.specs.List.{slice_get}
-use Rattle.xd_rules.specs.declared.heads.Side.{Side}
+use Rattle.xd_state_heads.specs.declared.heads.Side.{Side}
 use Rattle.xd_goals.proofs.grow.side_numbered.Given as goal
 
 abbrev pub invariant-loop-place : goal.invariant-loop-place

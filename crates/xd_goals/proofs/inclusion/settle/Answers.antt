@@ -2,7 +2,7 @@ use Rattle.std.proofs.lemmas.Result.{IfOk-from_err}
 use Rattle.std.proofs.Common.{◌+◌, ◌∙◌, arith, length, sym, rules}
 use Rattle.xd_doc.proofs.Lists.{none_of}
 use Rattle.xd_goals.specs.Kept.{view_of}
-use Rattle.xd_rules.specs.Moves.{claim_with}
+use Rattle.xd_state_heads.specs.Moves.{claim_with}
 use Rattle.xd_goals.specs.Measure.{possible}
 use Rattle.xd_goals.specs.Reached.{IsWaitingIn}
 use Rattle.xd_goals.proofs.PotentialLemmas.{potential-marked}

@@ -1,7 +1,7 @@
 use Rattle.std.proofs.Common.{take}
 use Rattle.std.specs.List.{AllByRecursion}
 use Rattle.xd_goals.specs.Reached.{IsLeafAt, LeadsToMarked, ReachesMore}
-use Rattle.xd_rules.specs.Members.{SomeOf}
+use Rattle.xd_rules.specs.Listed.{SomeOf}
 use Rattle.xd_goals.specs.declared.table.Choice.{Choice}
 use Rattle.xd_goals.proofs.IsWalkedLemmas.{MarksOnly}
 use Rattle.xd_goals.proofs.settled.mark_choices.Given as goal

@@ -2,7 +2,7 @@ use Rattle.std.proofs.Common.{◌≡◌, ◌+◌, false, arith, refl, sym, subst
 use Rattle.std.specs.List.{AllByRecursion}
 use Rattle.xd_auto.specs.Automaton.{IsState}
 use Rattle.xd_goals.specs.Trees.{IsTaker, takes}
-use Rattle.xd_rules.specs.declared.heads.Side.{Side}
+use Rattle.xd_state_heads.specs.declared.heads.Side.{Side}
 use Rattle.xd_rules.proofs.Lists.{all_at}
 use Rattle.std.proofs.lemmas.List.{take_all}
 use Rattle.xd_goals.proofs.IsSeparatedByLemmas.{none_more, none_to, or_found}

@@ -2,7 +2,7 @@ use Rattle.std.proofs.Common.{◌≡◌, false, length, take, MatchOption}
 use Rattle.std.specs.List.{AllByRecursion}
 use Rattle.xd_auto.specs.Kept.{AreRight}
 use Rattle.xd_goals.specs.Trees.{IsTaker, takes}
-use Rattle.xd_rules.specs.declared.heads.Side.{Side}
+use Rattle.xd_state_heads.specs.declared.heads.Side.{Side}
 use Rattle.xd_goals.proofs.takers.taker.Given as goal
 
 abbrev pub invariant-loop-place : goal.invariant-loop-place

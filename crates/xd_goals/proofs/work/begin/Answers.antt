@@ -1,10 +1,10 @@
 use Rattle.std.proofs.lemmas.Result.{IfOk-from_err}
 use Rattle.std.proofs.Common.{List, map, sym, ap, subst, refl, ◌∙◌, arith, rules}
 use Rattle.xd_doc.proofs.Lists.{all_get}
-use Rattle.xd_rules.specs.Moves.{claim_with}
+use Rattle.xd_state_heads.specs.Moves.{claim_with}
 use Rattle.xd_goals.specs.Kept.{view_of}
-use Rattle.xd_rules.specs.Wants.{IsCaseOf, want_key}
-use Rattle.xd_rules.specs.declared.heads.Want.{Want}
+use Rattle.xd_state_heads.specs.Wants.{IsCaseOf, want_key}
+use Rattle.xd_state_heads.specs.declared.heads.Want.{Want}
 use Rattle.xd_goals.proofs.HasGrownLemmas.{can_begin-then, grown-same, grown-then}
 use Rattle.std.proofs.lemmas.List.{take_all}
 use Rattle.xd_goals.proofs.IsTreeBySortLemmas.{begun_more, end_chosen, end_failed}
@@ -33,8 +33,6 @@ returns-in-Failed-clause-settled c =
 
 pub returns-clause-settled : goal.returns-clause-settled
 returns-clause-settled c = record {
-  named = c.in_ok-cases.ensures.named;
-  names = c.in_ok-cases.ensures.names;
   complete = c.loop-number.invariant.begun.keys_are
       ∙ ap (λ (ws : List Want). map want_key ws) (take_all c.loop-number.number c.in_ok-cases.cases.items (omega (arith, c.loop-number-test.false, c.loop-number.invariant.end_is)))
       ∙ c.in_ok-cases.ensures.complete;

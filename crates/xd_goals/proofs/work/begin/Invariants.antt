@@ -1,6 +1,6 @@
 use Rattle.std.proofs.Common.{◌≡◌, length, map, take}
-use Rattle.xd_rules.specs.Moves.{claim_with}
-use Rattle.xd_rules.specs.Wants.{want_key}
+use Rattle.xd_state_heads.specs.Moves.{claim_with}
+use Rattle.xd_state_heads.specs.Wants.{want_key}
 use Rattle.xd_goals.specs.Kept.{view_of}
 use Rattle.xd_goals.specs.Cases.{AreBegun}
 use Rattle.xd_goals.specs.Progress.{HasGrown}

@@ -1,6 +1,6 @@
 use Rattle.std.proofs.lemmas.Result.{IfOk-from_err}
 use Rattle.std.proofs.Common.{sym, true, false, ◌∙◌}
-use Rattle.xd_rules.specs.Moves.{claim_with}
+use Rattle.xd_state_heads.specs.Moves.{claim_with}
 use Rattle.xd_goals.specs.Kept.{view_of}
 use Rattle.xd_goals.proofs.HasGrownLemmas.{grown-same}
 use Rattle.xd_goals.proofs.IsTreeBySortLemmas.{case_can_grow, case_path, case_grown}

@@ -3,7 +3,7 @@ use Rattle.xd_doc.proofs.StoredLemmas.{Keeps-same}
 use Rattle.xd_doc.proofs.Results.{OnOk-map}
 use Rattle.xd_rules.specs.Rules.{Claim}
 use Rattle.xd_auto.specs.declared.auto.State.{State}
-use Rattle.xd_rules.specs.Moves.{claim_with}
+use Rattle.xd_state_heads.specs.Moves.{claim_with}
 use Rattle.xd_goals.specs.Kept.{view_of}
 use Rattle.xd_goals.specs.Cases.{FailsAt}
 use Rattle.xd_goals.proofs.Trees.{standing-grows}

@@ -3,9 +3,9 @@ use Rattle.xd_doc.proofs.StoredLemmas.{Keeps-same}
 use Rattle.xd_auto.specs.Automaton.{IsState}
 use Rattle.xd_goals.specs.Rows.{GoalRow, row_at, claim_of}
 use Rattle.std.specs.List.{AllByRecursion, flat_map}
-use Rattle.xd_rules.specs.Heads.{AreNames}
-use Rattle.xd_rules.specs.Moves.{heads_of}
-use Rattle.xd_rules.specs.Wants.{names_in}
+use Rattle.xd_rules.specs.Listed.{AreNames}
+use Rattle.xd_state_heads.specs.Moves.{heads_of}
+use Rattle.xd_state_heads.specs.Wants.{names_in}
 use Rattle.xd_goals.specs.Kept.{view_of}
 use Rattle.xd_goals.proofs.AreLinkedLemmas.{row_read}
 use Rattle.xd_goals.proofs.Verdicts.{content_belongs, rest_belongs, separated_by}

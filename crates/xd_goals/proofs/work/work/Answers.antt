@@ -3,7 +3,7 @@ use Rattle.xd_rules.proofs.Results.{OnOk-from_err}
 use Rattle.std.proofs.Common.{◌≡◌, true, false, refl, ap, subst, sym, ◌∙◌, rules}
 use Rattle.std.specs.List.{AllByRecursion, list_any}
 use Rattle.xd_auto.specs.Automaton.{IsState}
-use Rattle.xd_rules.specs.Moves.{is_last_in}
+use Rattle.xd_state_heads.specs.Moves.{is_last_in}
 use Rattle.xd_goals.specs.Rows.{GoalRow, claim_of, row_at}
 use Rattle.xd_goals.specs.Kept.{view_of}
 use Rattle.xd_goals.proofs.AreLinkedLemmas.{row_read}

@@ -1,6 +1,6 @@
 use Rattle.std.proofs.Common.{◌≡◌, ◌∷◌, [], ℕ, OnOk, take, ap, sym, subst, ◌∙◌}
 use Rattle.xd_doc.specs.Classes.{LabelClass, TextClass}
-use Rattle.xd_meaning.specs.Heads.{text_in}
+use Rattle.xd_rules.specs.Heads.{text_in}
 use Rattle.xd_syntax.specs.Table.{Form, elem_form, words_form, form_tree, tree_at}
 use Rattle.xd_syntax.specs.declared.types.TypeId.{TypeId}
 use Rattle.xd_continuations.specs.Continuation.{Move}

@@ -29,3 +29,11 @@ prove_goal-requires-clause-names c =
     let other = c.requires.right in
     let v = subst (IsVerdict c.args.auto.now c.decide.new.store c.decide.new.table c.args.left (c.args.right ∷ [])) c.in-Included.is c.in_ok-goal.ensures.verdict in
     row_known c.args.sound.now c.args.cells.now c.args.auto.now one.T other.T c.args.left c.args.right one.stands other.stands c.decide.new.table c.in-Included.goal.number v.1 one.names other.names
+
+pub returns-in-Included-clause-inclusion : goal.returns-in-Included-clause-inclusion
+returns-in-Included-clause-inclusion c = λ L R one other.
+    let v = subst (IsVerdict c.args.auto.now c.decide.new.store c.decide.new.table c.args.left (c.args.right ∷ [])) c.in-Included.is c.in_ok-goal.ensures.verdict in (
+      included c.args.sound.now c.args.cells.now c.args.auto.now L R c.args.left c.args.right one other v.0,
+      inclusion_proved c.args.sound.now c.args.cells.now c.args.auto.now L R c.args.left c.args.right one other c.decide.new.table c.in-Included.goal.number v.1
+          c.in_ok-prove_goal-in-Included.field-0.items c.in_ok-prove_goal-in-Included.ensures.text,
+    )

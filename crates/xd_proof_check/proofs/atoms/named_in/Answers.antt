@@ -1,6 +1,6 @@
 use Rattle.std.proofs.Common.{List, ℕ, ap, ◌∙◌}
 use Rattle.xd_doc.specs.Classes.{is_named}
-use Rattle.xd_meaning.specs.Consistent.{labels_of, texts_of}
+use Rattle.xd_rules.specs.Heads.{labels_of, texts_of}
 use Rattle.xd_proof_check.specs.Atoms.{kinds_of}
 use Rattle.xd_proof_check.proofs.NameLemmas.{both_named}
 use Rattle.xd_proof_check.proofs.atoms.named_in.Goals as goal

@@ -1,6 +1,6 @@
 use Rattle.std.proofs.Common.{List, arith, flat_map, subst}
 use Rattle.std.proofs.lemmas.List.{take_all}
-use Rattle.xd_meaning.specs.Consistent.{texts_of}
+use Rattle.xd_rules.specs.Heads.{texts_of}
 use Rattle.xd_heads.specs.declared.lister.NumberedHead.{NumberedHead}
 use Rattle.xd_proof_check.specs.Atoms.{kinds_of}
 use Rattle.xd_proof_check.specs.Names.{AddsNames}

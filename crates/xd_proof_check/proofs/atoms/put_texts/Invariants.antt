@@ -1,5 +1,5 @@
 use Rattle.std.proofs.Common.{flat_map, take}
-use Rattle.xd_meaning.specs.Consistent.{texts_of}
+use Rattle.xd_rules.specs.Heads.{texts_of}
 use Rattle.xd_proof_check.specs.Atoms.{kinds_of}
 use Rattle.xd_proof_check.specs.Names.{AddsNames}
 use Rattle.xd_proof_check.proofs.atoms.put_texts.Given as goal

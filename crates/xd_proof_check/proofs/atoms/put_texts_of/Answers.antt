@@ -1,5 +1,5 @@
 use Rattle.std.proofs.Common.{sym, subst}
-use Rattle.xd_meaning.specs.Consistent.{texts_of}
+use Rattle.xd_rules.specs.Heads.{texts_of}
 use Rattle.xd_heads.specs.HeadList.{kind_at}
 use Rattle.xd_heads.specs.declared.listing.HeadKind.{HeadKind}
 use Rattle.xd_proof_check.specs.Names.{AddsNames}

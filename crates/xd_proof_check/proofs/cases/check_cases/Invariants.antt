@@ -1,7 +1,9 @@
-use Rattle.std.proofs.Common.{◌≡◌, ◌≤◌, ◌+◌, ℕ, List, drop, length}
+use Rattle.std.proofs.Common.{◌≡◌, ◌≤◌, ◌+◌, ◌++◌, ℕ, List, drop, length}
 use Rattle.xd_syntax.specs.Table.{Row}
 use Rattle.xd_syntax.specs.Tree.{Definitions}
-use Rattle.xd_meaning.specs.Consistent.{Goal, atoms_from, named, wanted}
+use Rattle.xd_meaning.specs.Consistent.{Goal, right_heads}
+use Rattle.xd_rules.specs.Heads.{named_in}
+use Rattle.xd_rules.specs.Rules.{atoms_from, wanted}
 use Rattle.xd_meaning.specs.Heads.{heads}
 use Rattle.xd_laws.proofs.FirstWrong.{wrong_cases}
 use Rattle.xd_moves.specs.Cells.{Cell}
@@ -16,6 +18,6 @@ invariant-loop-left l = record {
   within : l.at ≤ length l.cases.cases.now;
   keeps : KeepsRoom l.initial.path l.path;
   found : (types : List Row) (cells : List Cell) (E : Definitions) (gs : List Goal) (g : Goal) (line : ℕ) → Meets types cells E gs g (cases_of l.cases) →
-      wrong_cases E gs g line (wanted E g) g.cases
-      ≡ wrong_cases E gs g (line + l.at) (atoms_from (named E g) (l.left + 1) (drop l.left (heads E g.left))) (drop l.at g.cases);
+      wrong_cases E gs g line (wanted (heads E g.left) (right_heads E g)) g.cases
+      ≡ wrong_cases E gs g (line + l.at) (atoms_from (named_in (heads E g.left ++ right_heads E g)) (l.left + 1) (drop l.left (heads E g.left))) (drop l.at g.cases);
 }

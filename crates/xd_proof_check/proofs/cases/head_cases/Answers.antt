@@ -1,8 +1,9 @@
 use Rattle.std.proofs.Common.{◌+◌, ◌∙◌, ◌++◌, suc, drop, ap, arith, ◌≡◌, add-one, sym, ◌<◌, length}
 use Rattle.std.proofs.lemmas.List.{drop_all}
 use Rattle.xd_meaning.specs.Heads.{heads}
-use Rattle.xd_meaning.specs.Consistent as laws
-use Rattle.xd_meaning.specs.Consistent.{atoms_from}
+use Rattle.xd_meaning.specs.Consistent.{right_heads}
+use Rattle.xd_rules.specs.Heads.{named_in}
+use Rattle.xd_rules.specs.Rules.{atoms_from}
 use Rattle.xd_proof_check.specs.CaseWalk.{cases_of, wrong_after}
 use Rattle.xd_proof_check.proofs.PathLemmas.{keeps_then}
 use Rattle.xd_laws.proofs.FirstWrong.{wrong_cases}
@@ -21,7 +22,7 @@ returns-in-Some-clause-found c =
     let a = c.atom-item.result in
     let at = c.loop-atom.at in
     λ types cells E gs g line m.
-    let rest = atoms_from (laws.named E g) (left + 1 + 1) (drop (left + 1) (heads E g.left)) in
+    let rest = atoms_from (named_in (heads E g.left ++ right_heads E g)) (left + 1 + 1) (drop (left + 1) (heads E g.left)) in
     ap (λ ws. wrong_cases E gs g (line + c.args.at) ws (drop c.args.at g.cases))
     (head_start types cells E gs g v c.args.path.now c.requires.fit m c.args.named.now c.requires.named left c.index-cases-left.result c.requires.left c.in_ok-atoms.atoms.items items c.in_ok-atoms.ensures
     c.deref-atom-items.ensures.value)
@@ -38,7 +39,7 @@ returns-clause-found c =
     let i = c.loop-atom.atom-index in
     let at = c.loop-atom.at in
     λ types cells E gs g line m.
-    let rest = atoms_from (laws.named E g) (left + 1 + 1) (drop (left + 1) (heads E g.left)) in
+    let rest = atoms_from (named_in (heads E g.left ++ right_heads E g)) (left + 1 + 1) (drop (left + 1) (heads E g.left)) in
     ap (λ ws. wrong_cases E gs g (line + c.args.at) ws (drop c.args.at g.cases))
     (head_start types cells E gs g v c.args.path.now c.requires.fit m c.args.named.now c.requires.named left c.index-cases-left.result c.requires.left c.in_ok-atoms.atoms.items items c.in_ok-atoms.ensures
     c.deref-atom-items.ensures.value)

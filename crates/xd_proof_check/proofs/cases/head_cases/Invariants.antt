@@ -1,7 +1,8 @@
 use Rattle.std.proofs.Common.{◌≡◌, ◌≤◌, ◌+◌, ◌++◌, ℕ, List, drop, length}
 use Rattle.xd_syntax.specs.Table.{Row}
 use Rattle.xd_syntax.specs.Tree.{Definitions}
-use Rattle.xd_meaning.specs.Consistent.{Goal, HeadAtom}
+use Rattle.xd_meaning.specs.Consistent.{Goal}
+use Rattle.xd_rules.specs.Rules.{HeadAtom}
 use Rattle.xd_laws.proofs.FirstWrong.{wrong_cases}
 use Rattle.xd_moves.specs.Cells.{Cell}
 use Rattle.xd_proof_check.specs.CaseWalk.{CasesFit, Meets, cases_of}

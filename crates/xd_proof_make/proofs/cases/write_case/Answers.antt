@@ -12,5 +12,5 @@ write_steps-requires c =
 
 pub returns : goal.returns
 returns c =
-    made_case c.args.table.now.nodes (new_numbers c.args.heads.now) c.args.goals.now (length c.args.goals.now) (length c.args.heads.now) c.args.head c.args.choice.now _ c.in_ok-steps.steps.items c.requires c.in_ok-steps.ensures refl c.in_ok-atom.ensures.same c.write_atom.ensures.spelled
+    made_case c.args.table.now.nodes (new_numbers c.args.heads.now) c.args.goals.now (length c.args.goals.now) (length c.args.heads.now) c.args.head c.args.choice.now _ c.in_ok-steps.steps.items c.requires c.in_ok-steps.ensures refl c.in_ok-atom.ensures.same c.share_atom.ensures.spelled
     (c.in_ok-steps-2.ensures ∙ ap (map (written_step (new_numbers c.args.heads.now) c.args.goals.now)) c.deref.ensures.value)

@@ -1,6 +1,6 @@
 use Rattle.std.proofs.Common.{◌≡◌, ◌∷◌, ◌++◌, List, ℕ, ap, subst, ◌∙◌}
-use Rattle.xd_meaning.specs.Breach.{Lined}
-use Rattle.xd_meaning.specs.Consistent.{Claim}
+use Rattle.xd_meaning.specs.Breach.{Lined, goals_of}
+use Rattle.xd_meaning.specs.Consistent.{ClaimHolds}
 use Rattle.xd_syntax.specs.Kept.{program_tree}
 use Rattle.xd_syntax.specs.NameFaults.{known_types}
 use Rattle.xd_syntax.specs.Program.{ProgramTree, names_of}
@@ -9,7 +9,6 @@ use Rattle.xd_proof.proofs.GoalLemmas.{goals_belong}
 use Rattle.xd_proof_check.proofs.AcceptLemmas.{goals_stay}
 use Rattle.xd_proof_write.specs.ClaimText.{claim_text}
 use Rattle.std.specs.List.{AllByRecursion}
-use Rattle.xd_meaning.specs.Breach.{goals_of}
 use Rattle.xd_uses_proofs.proofs.claims.proved_claim.Goals as goal
 
 pub accepts-requires : goal.accepts-requires
@@ -33,7 +32,7 @@ returns c =
       defined = c.in_ok-sound.ensures.program;
       goals = g.0;
       spelled = g.1;
-      holds = subst (λ (Q : ProgramTree). AllByRecursion (Claim (names_of Q)) (goals_of g.0)) c.in_ok-read.ensures.same (c.in_ok-accepts.ensures.holds g.0 g.2 c.in-Accepted.is);
+      holds = subst (λ (Q : ProgramTree). AllByRecursion (ClaimHolds (names_of Q)) (goals_of g.0)) c.in_ok-read.ensures.same (c.in_ok-accepts.ensures.holds g.0 g.2 c.in-Accepted.is);
       written = λ first others e.
           c.in_ok-claim_line-in-Accepted.ensures.text first others (subst (AreGoalsAt new c.in_ok-read.read) e stay)
           ∙ ap (λ (xs : List ℕ). xs ++ claim_text first.goal) c.new-claim.ensures.items;

@@ -1,6 +1,0 @@
-use Rattle.std.proofs.Common.{◌≡◌, ◌++◌, map, take}
-use Rattle.xd_rules.specs.Wants.{want_at}
-use Rattle.xd_rules.proofs.heads.add_at_atoms.Given as goal
-
-abbrev pub invariant-loop-atom : goal.invariant-loop-atom
-invariant-loop-atom l = l.cases.items ≡ l.initial.cases.items ++ map (want_at l.head.number l.head.content l.head.rest) (take l.atom-index l.atoms)

@@ -1,0 +1,2 @@
+pub mod IsHeadNamedLemmas
+pub mod Sides
