@@ -2,11 +2,10 @@
 
 use crate::pool::pool;
 use crate::states::states;
-use crate::tables::tables;
-use crate::tokens::tokens;
 use std::alloc::Global;
 use xd_calls_lines::{Call, CallError, Desk};
 use xd_calls_programs::Case;
+use xd_calls_tables::{table_calls, token_calls};
 use xd_same_types::Pool;
 
 /// The program of the case, and a table of types in which each form is made once.
@@ -30,8 +29,8 @@ impl Desk for PartDesk {
     fn answer(&mut self, call: &Call<'_>, out: &mut Vec<u8>) -> Result<(), CallError> {
         let about = call.of_subject();
         match call.name {
-            "tokens" => tokens(&about, out),
-            "tables" => tables(&about, out),
+            "tokens" => token_calls(&about, out),
+            "tables" => table_calls(&about, out),
             "pool" => pool(&mut self.pool, &about, out),
             "states" => {
                 self.case.take(call.text)?;

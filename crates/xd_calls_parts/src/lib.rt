@@ -1,13 +1,10 @@
-//! Calls of the parts that other calls are made of: tokens, tables, graphs, sets and cases of
+//! Calls of the parts that other calls are made of: types that are made once, and sets and cases of
 //! states.
 #![tactic(auto)]
 
 mod desk;
 mod pool;
-mod shown;
 mod solved;
 mod states;
-mod tables;
-mod tokens;
 
 pub use crate::desk::PartDesk;

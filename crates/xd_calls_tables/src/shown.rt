@@ -8,7 +8,7 @@ use xd_shown::{Shown, free_names, none_around};
 
 /// The first name that is free, as it stands for the label `none` around it, and how many
 /// definitions there are.
-pub fn show_shown(alloc: Global, out: &mut Vec<u8>) -> Result<(), CallError> {
+pub(crate) fn show_shown(alloc: Global, out: &mut Vec<u8>) -> Result<(), CallError> {
     let shown = shown_of(alloc)?;
     let count = shown.sound.program().type_defs().len();
     writeln!(out, "{} of {count} definitions", shown.start.as_str())?;

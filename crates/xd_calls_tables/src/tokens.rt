@@ -10,7 +10,7 @@ use xd_syntax::{Patterns, Types};
 /// `text_of : TEXT`; `word : TEXT`, `label : TEXT` and `quoted : TEXT`, the place of the first
 /// token and what it is taken as; `shared_label WORD`; `read_pattern_seq : TEXT`; `read_type :
 /// TEXT`.
-pub fn tokens(call: &Call<'_>, out: &mut Vec<u8>) -> Result<(), CallError> {
+pub fn token_calls(call: &Call<'_>, out: &mut Vec<u8>) -> Result<(), CallError> {
     match call.name {
         "text_of" => show_text(call.text.as_bytes(), out),
         "word" => show_word(call, out),

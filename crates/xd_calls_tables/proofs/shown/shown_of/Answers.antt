@@ -4,7 +4,7 @@ use Rattle.xd_syntax.specs.Words.{any_word}
 use Rattle.xd_same_types.specs.Grown.{NamesAmong}
 use Rattle.xd_shown.specs.Bodies.{AreBodies}
 use Rattle.xd_shown.proofs.AreMeantLemmas.{none_bodies, one_word, own_known}
-use Rattle.xd_calls_parts.proofs.shown.shown_of.Goals as goal
+use Rattle.xd_calls_tables.proofs.shown.shown_of.Goals as goal
 
 pub new-requires-clause-bodies : goal.new-requires-clause-bodies
 new-requires-clause-bodies c =

@@ -24,7 +24,7 @@ use xd_syntax::{
 /// NODES FROM TO`; `interned NUMBERS`, a list that is made from its end; `queue NUMBER`; `join ONE
 /// TWO`, of queues of one number; `names WORDS : PROGRAM`; `known : PROGRAM`; `place_front LINE
 /// COLUMN`, `texts WORDS`; `shown`.
-pub fn tables(call: &Call<'_>, out: &mut Vec<u8>) -> Result<(), CallError> {
+pub fn table_calls(call: &Call<'_>, out: &mut Vec<u8>) -> Result<(), CallError> {
     match call.name {
         "add_type" => add_type(call.alloc, out),
         "add_pattern" => add_pattern(call.alloc, out),
