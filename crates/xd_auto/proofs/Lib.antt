@@ -17,3 +17,7 @@ pub mod IsJoinedLemmas
 pub mod IsIndexLemmas
 pub mod IsNextLemmas
 pub mod AreMatchingLemmas
+pub mod Steps
+pub mod Universals
+pub mod SameMoves
+pub mod EndsLemmas

@@ -7,3 +7,7 @@ pub mod Matching
 pub mod Counts
 pub mod Runs
 pub mod Copying
+pub mod Traces
+pub mod Universal
+pub mod Leading
+pub mod Keys

@@ -3,28 +3,24 @@ use Rattle.std.specs.Prelude.{◌≡◌, ℕ, suc, true, ◌↔◌, cond, List, 
 use Rattle.std.specs.Option.{IsSomeAnd}
 use Rattle.xd_doc.specs.Document.{Document, empty, text, element}
 use Rattle.xd_doc.specs.Classes.{class_has}
+use Rattle.xd_doc.specs.Runs.{Run, at_end, at_text, at_element}
 use Rattle.xd_auto.specs.declared.auto.State.{State}
 use Rattle.xd_auto.specs.Automaton.{Automaton, accepts, moves_at}
 
--- a move for each item of a document at every depth: its place among the state's moves on a text or
--- on an element, from 0
-pub data Run : Type 0 where
-  ends : Run
-  takes_text : (move : ℕ) (rest : Run) → Run
-  takes_element : (move : ℕ) (content rest : Run) → Run
-
--- the run leads the state over the document, and its content and rest states over the parts
-abbrev pub IsAcceptingRun : Automaton → Document → State → Run → Type 0
-IsAcceptingRun a empty s ends = (moves_at a s).last ≡ true
-IsAcceptingRun a empty s (takes_text n r) = ⊥
-IsAcceptingRun a empty s (takes_element n c r) = ⊥
-IsAcceptingRun a (text t rest) s ends = ⊥
-IsAcceptingRun a (text t rest) s (takes_text n r) =
+-- The run takes each item by a move, of which it has the place among the state's moves on a text or
+-- on an element, from 0. It leads the state over the document, and its content and rest states over
+-- the parts.
+abbrev pub IsAcceptingRun : Automaton → Document → State → Run ℕ → Type 0
+IsAcceptingRun a empty s at_end = (moves_at a s).last ≡ true
+IsAcceptingRun a empty s (at_text n r) = ⊥
+IsAcceptingRun a empty s (at_element n c r) = ⊥
+IsAcceptingRun a (text t rest) s at_end = ⊥
+IsAcceptingRun a (text t rest) s (at_text n r) =
     IsSomeAnd (slice_get (moves_at a s).texts n) (λ m. (class_has m.words t ≡ true) × IsAcceptingRun a rest m.rest r)
-IsAcceptingRun a (text t rest) s (takes_element n c r) = ⊥
-IsAcceptingRun a (element l content rest) s ends = ⊥
-IsAcceptingRun a (element l content rest) s (takes_text n r) = ⊥
-IsAcceptingRun a (element l content rest) s (takes_element n c r) =
+IsAcceptingRun a (text t rest) s (at_element n c r) = ⊥
+IsAcceptingRun a (element l content rest) s at_end = ⊥
+IsAcceptingRun a (element l content rest) s (at_text n r) = ⊥
+IsAcceptingRun a (element l content rest) s (at_element n c r) =
     IsSomeAnd (slice_get (moves_at a s).labels n)
     (λ m. (class_has m.class l ≡ true) × IsAcceptingRun a content m.content c × IsAcceptingRun a rest m.rest r)
 
@@ -35,16 +31,16 @@ from_each f (x ∷ xs) = f 0 x ++ from_each (λ n. f (suc n)) xs
 
 -- the runs of a state over a document, in the order of its moves, then of the runs over the
 -- content, then of those over the rest
-abbrev pub runs : Automaton → Document → State → List Run
-runs a empty s = cond (moves_at a s).last (ends ∷ []) []
-runs a (text t rest) s = from_each (λ n m. cond (class_has m.words t) (map (takes_text n) (runs a rest m.rest)) []) (moves_at a s).texts
+abbrev pub runs : Automaton → Document → State → List (Run ℕ)
+runs a empty s = cond (moves_at a s).last (at_end ∷ []) []
+runs a (text t rest) s = from_each (λ n m. cond (class_has m.words t) (map (at_text n) (runs a rest m.rest)) []) (moves_at a s).texts
 runs a (element l content rest) s =
-    from_each (λ n m. cond (class_has m.class l) (flat_map (λ c. map (takes_element n c) (runs a rest m.rest)) (runs a content m.content)) []) (moves_at a s).labels
+    from_each (λ n m. cond (class_has m.class l) (flat_map (λ c. map (at_element n c) (runs a rest m.rest)) (runs a content m.content)) []) (moves_at a s).labels
 
 -- the list of runs has just the accepting runs
 abbrev pub RunsAreAccepting : Automaton → State → Type 0
-RunsAreAccepting a s = (d : Document) (run : Run) → Contains (runs a d s) run ↔ IsAcceptingRun a d s run
+RunsAreAccepting a s = (d : Document) (run : Run ℕ) → Contains (runs a d s) run ↔ IsAcceptingRun a d s run
 
 -- the state accepts a document exactly where it has an accepting run over it
 abbrev pub AcceptsByRuns : Automaton → State → Type 0
-AcceptsByRuns a s = (d : Document) → (accepts a d s ≡ true) ↔ ((run : Run) × IsAcceptingRun a d s run)
+AcceptsByRuns a s = (d : Document) → (accepts a d s ≡ true) ↔ ((run : Run ℕ) × IsAcceptingRun a d s run)

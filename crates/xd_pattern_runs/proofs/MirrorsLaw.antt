@@ -5,9 +5,10 @@ use Rattle.std.specs.List.{AllZip}
 use Rattle.std.proofs.Common.{◌≡◌, ℕ, Bool, true, false, cond, List, [], ◌∷◌, map, flat_map, Some, ap, sym, ◌∙◌, refl, inl, inr}
 use Rattle.xd_doc.specs.Document.{Document, empty, text, element}
 use Rattle.xd_doc.specs.Classes.{class_has}
+use Rattle.xd_doc.specs.Runs.{at_end, at_text, at_element}
 use Rattle.xd_syntax.specs.Tree.{Tree, Definitions}
 use Rattle.xd_laws.specs.Guarded.{Guarded}
-use Rattle.xd_pattern_runs.specs.Runs.{Continuation, start, TextMove, ElementMove, Moves, choices, texts_of, elements_of, ended, over_text, over_element, text_runs, element_runs, runs_by, runs, Choice, stop, take_text, take_element, has_stop}
+use Rattle.xd_pattern_runs.specs.Runs.{Continuation, start, TextMove, ElementMove, Moves, choices, texts_of, elements_of, text_runs, element_runs, runs_by, runs, Choice, stop, take_text, take_element, has_stop}
 use Rattle.xd_pattern_runs.specs.Mirrors.{Ahead, SameText, SameElement, Mirrors, AreRunsOf, MirrorsRun}
 use Rattle.xd_pattern_runs.specs.Linear.{BindNothing, IsLinear}
 use Rattle.xd_pattern_runs.specs.Alike.{Alike}
@@ -47,12 +48,12 @@ module _ {S : Type 0} (E : Definitions) (M : S → Moves S) (A : Ahead S) (mirro
   text_alike t d h m n q =
       alike_trans
       (alike_same (
-      ap (λ w. cond (class_has w t) (map (over_text m.marks) (runs_by M d m.rest)) []) q.words
-      ∙ ap (λ xs. cond (class_has n.words t) (map (over_text xs) (runs_by M d m.rest)) []) q.marks))
+      ap (λ w. cond (class_has w t) (map (at_text m.marks) (runs_by M d m.rest)) []) q.words
+      ∙ ap (λ xs. cond (class_has n.words t) (map (at_text xs) (runs_by M d m.rest)) []) q.marks))
       (go (class_has n.words t))
     where
-      go : (b : Bool) → Alike (cond b (map (over_text n.marks) (runs_by M d m.rest)) []) (cond b (map (over_text n.marks) (runs E d n.rest)) [])
-      go true = alike_map (over_text n.marks) (h m.rest n.rest q.rest)
+      go : (b : Bool) → Alike (cond b (map (at_text n.marks) (runs_by M d m.rest)) []) (cond b (map (at_text n.marks) (runs E d n.rest)) [])
+      go true = alike_map (at_text n.marks) (h m.rest n.rest q.rest)
       go false = alike_refl []
 
   element_alike : (l : List ℕ) (k d : Document) → ((s : S) (K : Continuation) → A s ≡ Some K → Alike (runs_by M k s) (runs E k K)) →
@@ -61,21 +62,21 @@ module _ {S : Type 0} (E : Definitions) (M : S → Moves S) (A : Ahead S) (mirro
   element_alike l k d g h m n q =
       alike_trans
       (alike_same (
-      ap (λ c. cond (class_has c l) (flat_map (λ r. map (over_element m.marks r) (runs_by M d m.rest)) (runs_by M k m.content)) []) q.class
-      ∙ ap (λ xs. cond (class_has n.class l) (flat_map (λ r. map (over_element xs r) (runs_by M d m.rest)) (runs_by M k m.content)) []) q.marks))
+      ap (λ c. cond (class_has c l) (flat_map (λ r. map (at_element m.marks r) (runs_by M d m.rest)) (runs_by M k m.content)) []) q.class
+      ∙ ap (λ xs. cond (class_has n.class l) (flat_map (λ r. map (at_element xs r) (runs_by M d m.rest)) (runs_by M k m.content)) []) q.marks))
       (go (class_has n.class l))
     where
-      go : (b : Bool) → Alike (cond b (flat_map (λ r. map (over_element n.marks r) (runs_by M d m.rest)) (runs_by M k m.content)) [])
-          (cond b (flat_map (λ r. map (over_element n.marks r) (runs E d n.rest)) (runs E k n.content)) [])
+      go : (b : Bool) → Alike (cond b (flat_map (λ r. map (at_element n.marks r) (runs_by M d m.rest)) (runs_by M k m.content)) [])
+          (cond b (flat_map (λ r. map (at_element n.marks r) (runs E d n.rest)) (runs E k n.content)) [])
       go true =
-          alike_trans (alike_flat (λ r. map (over_element n.marks r) (runs_by M d m.rest)) (g m.content n.content q.content))
-          (alike_each (λ r. map (over_element n.marks r) (runs_by M d m.rest)) (λ r. map (over_element n.marks r) (runs E d n.rest)) (runs E k n.content)
-          (λ r i. alike_map (over_element n.marks r) (h m.rest n.rest q.rest)))
+          alike_trans (alike_flat (λ r. map (at_element n.marks r) (runs_by M d m.rest)) (g m.content n.content q.content))
+          (alike_each (λ r. map (at_element n.marks r) (runs_by M d m.rest)) (λ r. map (at_element n.marks r) (runs E d n.rest)) (runs E k n.content)
+          (λ r i. alike_map (at_element n.marks r) (h m.rest n.rest q.rest)))
       go false = alike_refl []
 
   runs_alike : (d : Document) (s : S) (K : Continuation) → A s ≡ Some K → Alike (runs_by M d s) (runs E d K)
   runs_alike empty s K e =
-      let f = mirrors.found s K e in alike_same (ap (λ b. cond b (ended ∷ []) []) (f.2.last ∙ same_stops f.0 (choices E K) f.1))
+      let f = mirrors.found s K e in alike_same (ap (λ b. cond b (at_end ∷ []) []) (f.2.last ∙ same_stops f.0 (choices E K) f.1))
   runs_alike (text t d) s K e =
       let f = mirrors.found s K e in
       alike_trans

@@ -5,12 +5,13 @@ use Rattle.xd_doc.specs.Document.{Document, empty, text, element, join}
 use Rattle.xd_doc.specs.Classes.{class_has}
 use Rattle.xd_doc.proofs.Joins.{join_assoc}
 use Rattle.xd_doc.proofs.Lists.{append_none}
+use Rattle.xd_doc.specs.Runs.{at_end, at_text, at_element, held}
 use Rattle.xd_syntax.specs.Tree.{Tree, Empty, Text, Words, Name, Elem, Seq, Alt, Star, Plus, Opt, Val, Definitions, body}
 use Rattle.xd_meaning.specs.Heads.{all_texts}
 use Rattle.xd_syntax.specs.Ways.{Among}
 use Rattle.xd_laws.specs.Guarded.{Guarded}
 use Rattle.xd_syntax.proofs.Members.{mem_append, mem_flat, flat_same}
-use Rattle.xd_pattern_runs.specs.Runs.{Piece, Continuation, Choice, stop, take_text, take_element, start, in_place, then_choices, one_stop, has_stop, turn_choices, some_turn_choices, choices_by, choices_of_definition, choices_of_name, choices_within, choices, Run, ended, over_text, over_element, TextMove, ElementMove, texts_of, elements_of, text_runs, element_runs, runs, if_marked, held}
+use Rattle.xd_pattern_runs.specs.Runs.{Piece, Continuation, Choice, stop, take_text, take_element, start, in_place, then_choices, one_stop, has_stop, turn_choices, some_turn_choices, choices_by, choices_of_definition, choices_of_name, choices_within, choices, MarkedRun, TextMove, ElementMove, texts_of, elements_of, text_runs, element_runs, runs, if_marked, trace}
 use Rattle.xd_pattern_runs.specs.Linear.{BindNothing, IsApart}
 use Rattle.xd_pattern_runs.specs.Alike.{Holding, Alike}
 use Rattle.xd_pattern_runs.proofs.Alike.{alike_refl, alike_same, alike_sym, alike_trans, alike_flat, alike_each, alike_map, alike_again, flat_flat, flat_of_map, map_of_flat, map_of_map, map_each}
@@ -105,8 +106,8 @@ fine_within E none n (p ∷ K) f =
 abbrev pub done : List Partial → List Holding
 done L = flat_map (λ v. cond (nothing_left v) (v.holds ∷ []) []) L
 
-abbrev pub outcome : Document → Run → Holding
-outcome d r = λ x. held x d r
+abbrev pub outcome : Document → MarkedRun → Holding
+outcome d r = λ x. held d (trace x r)
 
 abbrev after : Partial → Holding → Holding
 after v h = λ x. join (v.holds x) (h x)
@@ -133,7 +134,7 @@ stops_same E (stop ∷ cs) = alike_trans (stops_same E cs) (alike_sym (alike_aga
 stops_same E (take_text w xs R ∷ cs) = stops_same E cs
 stops_same E (take_element c C xs R ∷ cs) = stops_same E cs
 
-ends_same : (E : Definitions) (cs : List Choice) → Alike (map (outcome empty) (cond (has_stop cs) (ended ∷ []) [])) (done (all_do E empty cs))
+ends_same : (E : Definitions) (cs : List Choice) → Alike (map (outcome empty) (cond (has_stop cs) (at_end ∷ []) [])) (done (all_do E empty cs))
 ends_same E [] = alike_refl []
 ends_same E (stop ∷ cs) = stops_same E cs
 ends_same E (take_text w xs R ∷ cs) = ends_same E cs
@@ -173,10 +174,10 @@ text_same E s d (take_text w xs K) f h = go (class_has w s)
     p : Partial
     p = record { holds = λ x. if_marked xs x (text s empty); rest = d }
 
-    go : (b : Bool) → Alike (map (outcome (text s d)) (cond b (map (over_text xs) (runs E d K)) [])) (done (bind (means E K) (cond b (p ∷ []) [])))
+    go : (b : Bool) → Alike (map (outcome (text s d)) (cond b (map (at_text xs) (runs E d K)) [])) (done (bind (means E K) (cond b (p ∷ []) [])))
     go true =
         alike_trans
-        (alike_same (map_of_map (outcome (text s d)) (over_text xs) (runs E d K) ∙ sym (map_of_map (after p) (outcome d) (runs E d K))))
+        (alike_same (map_of_map (outcome (text s d)) (at_text xs) (runs E d K) ∙ sym (map_of_map (after p) (outcome d) (runs E d K))))
         (alike_trans (alike_map (after p) (h K f))
         (alike_same (sym (done_bind E K (p ∷ []) ∙ append_none (map (after p) (done (means E K d)))))))
     go false = alike_refl []
@@ -197,13 +198,13 @@ around_done xs l k d (v ∷ L) = go (nothing_left v) (around_done xs l k d L)
 
 element_inside : (E : Definitions) (xs : List (List ℕ)) (l : List ℕ) (k d : Document) (C K : Continuation) →
     Alike (map (outcome k) (runs E k C)) (done (means E C k)) → Alike (map (outcome d) (runs E d K)) (done (means E K d)) →
-    Alike (map (outcome (element l k d)) (flat_map (λ q. map (over_element xs q) (runs E d K)) (runs E k C)))
+    Alike (map (outcome (element l k d)) (flat_map (λ q. map (at_element xs q) (runs E d K)) (runs E k C)))
     (done (bind (means E K) (flat_map (λ v. cond (nothing_left v) (with_content xs l k d v ∷ []) []) (means E C k))))
 element_inside E xs l k d C K g h =
     alike_trans
     (alike_same (
-    map_of_flat (outcome (element l k d)) (λ q. map (over_element xs q) (runs E d K)) (runs E k C)
-    ∙ flat_same (λ q. map (outcome (element l k d)) (map (over_element xs q) (runs E d K))) (λ q. map (after (around xs l k d (outcome k q))) (map (outcome d) (runs E d K))) (runs E k C)
+    map_of_flat (outcome (element l k d)) (λ q. map (at_element xs q) (runs E d K)) (runs E k C)
+    ∙ flat_same (λ q. map (outcome (element l k d)) (map (at_element xs q) (runs E d K))) (λ q. map (after (around xs l k d (outcome k q))) (map (outcome d) (runs E d K))) (runs E k C)
     (λ q m. each q)
     ∙ sym (flat_of_map (λ o. map (after (around xs l k d o)) (map (outcome d) (runs E d K))) (outcome k) (runs E k C))))
     (alike_trans
@@ -216,11 +217,11 @@ element_inside E xs l k d C K g h =
     ∙ ap (flat_map (λ v. map (after v) (done (means E K v.rest)))) (around_done xs l k d (means E C k))
     ∙ flat_of_map (λ v. map (after v) (done (means E K v.rest))) (around xs l k d) (done (means E C k)))))))
   where
-    each : (q : Run) → map (outcome (element l k d)) (map (over_element xs q) (runs E d K)) ≡ map (after (around xs l k d (outcome k q))) (map (outcome d) (runs E d K))
+    each : (q : MarkedRun) → map (outcome (element l k d)) (map (at_element xs q) (runs E d K)) ≡ map (after (around xs l k d (outcome k q))) (map (outcome d) (runs E d K))
     each q =
-        map_of_map (outcome (element l k d)) (over_element xs q) (runs E d K)
-        ∙ map_each (λ r. outcome (element l k d) (over_element xs q r)) (λ r. after (around xs l k d (outcome k q)) (outcome d r)) (runs E d K)
-        (λ r m. fun_ext (λ x. sym (join_assoc (if_marked xs x (element l k empty)) (held x k q) (held x d r))))
+        map_of_map (outcome (element l k d)) (at_element xs q) (runs E d K)
+        ∙ map_each (λ r. outcome (element l k d) (at_element xs q r)) (λ r. after (around xs l k d (outcome k q)) (outcome d r)) (runs E d K)
+        (λ r m. fun_ext (λ x. sym (join_assoc (if_marked xs x (element l k empty)) (held k (trace x q)) (held d (trace x r)))))
         ∙ sym (map_of_map (after (around xs l k d (outcome k q))) (outcome d) (runs E d K))
 
 element_same : (E : Definitions) (l : List ℕ) (k d : Document) (c : Choice) → IsFineChoice c →
@@ -231,7 +232,7 @@ element_same E l k d stop f g h = alike_refl []
 element_same E l k d (take_text w xs K) f g h = alike_refl []
 element_same E l k d (take_element c C xs K) f g h = go (class_has c l)
   where
-    go : (b : Bool) → Alike (map (outcome (element l k d)) (cond b (flat_map (λ q. map (over_element xs q) (runs E d K)) (runs E k C)) []))
+    go : (b : Bool) → Alike (map (outcome (element l k d)) (cond b (flat_map (λ q. map (at_element xs q) (runs E d K)) (runs E k C)) []))
         (done (bind (means E K) (cond b (flat_map (λ v. cond (nothing_left v) (with_content xs l k d v ∷ []) []) (means E C k)) [])))
     go true = element_inside E xs l k d C K (g C f.0) (h K f.1)
     go false = alike_refl []

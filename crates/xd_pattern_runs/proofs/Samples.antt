@@ -4,8 +4,9 @@ use Rattle.xd_pattern_runs.specs.Alike.{Alike}
 use Rattle.std.proofs.Common.{◌≡◌, ℕ, suc, zero, true, false, [], ◌∷◌, map, Some, None, refl, List, ap}
 use Rattle.xd_doc.specs.Document.{Document, empty, element}
 use Rattle.xd_doc.specs.Classes.{LabelClass}
+use Rattle.xd_doc.specs.Runs.{held}
 use Rattle.xd_syntax.specs.Tree.{Tree, Empty, Elem, Seq, Alt, Star, Plus, Opt, Val, Definitions, environment}
-use Rattle.xd_pattern_runs.specs.Runs.{Piece, Continuation, stop, take_element, start, choices, ElementMove, Moves, runs, held, Choice}
+use Rattle.xd_pattern_runs.specs.Runs.{Piece, Continuation, stop, take_element, start, choices, ElementMove, Moves, runs, Choice, trace}
 use Rattle.xd_pattern_runs.specs.Mirrors.{AreMovesOf, Ahead, SameElement, Mirrors}
 
 -- the class of `a`
@@ -41,10 +42,10 @@ abbrev two_items : Document
 two_items = element (97 ∷ []) empty (element (97 ∷ []) empty empty)
 
 -- the first run over `a[],a[]` gives `x` nothing and `y` both, and the second one each
-shares : map (λ r. held (120 ∷ []) two_items r) (runs no_types two_items (start two_variables)) ≡ empty ∷ element (97 ∷ []) empty empty ∷ []
+shares : map (λ r. held two_items (trace (120 ∷ []) r)) (runs no_types two_items (start two_variables)) ≡ empty ∷ element (97 ∷ []) empty empty ∷ []
 shares = refl
 
-others : map (λ r. held (121 ∷ []) two_items r) (runs no_types two_items (start two_variables)) ≡ two_items ∷ element (97 ∷ []) empty empty ∷ []
+others : map (λ r. held two_items (trace (121 ∷ []) r)) (runs no_types two_items (start two_variables)) ≡ two_items ∷ element (97 ∷ []) empty empty ∷ []
 others = refl
 
 -- An automaton that mirrors `val x as a[]*`: the pattern, what stands ahead after an item, and the

@@ -7,6 +7,7 @@ use Rattle.std.proofs.Common.{◌≡◌, ◌↔◌, ℕ, Bool, true, false, cond
 use Rattle.std.specs.Str.{bytes_eq}
 use Rattle.std.proofs.lemmas.Slice.Eq.{bytes_eq-Decides}
 use Rattle.xd_doc.specs.Document.{Document, empty}
+use Rattle.xd_doc.specs.Runs.{held}
 use Rattle.xd_syntax.specs.Words.{has_word}
 use Rattle.xd_syntax.specs.Tree.{Tree, Empty, Text, Words, Name, Elem, Seq, Alt, Star, Plus, Opt, Val, Definitions, occurrences}
 use Rattle.xd_laws.specs.Laws.{bare}
@@ -19,7 +20,7 @@ use Rattle.xd_laws.proofs.Bare.{fits_bare, bare_fits}
 use Rattle.xd_syntax.proofs.Members.{mem_flat, flat_mem, mem_map, map_mem, cond_true}
 use Rattle.xd_laws.proofs.Unfoldings.{takes_fits, fits_takes}
 use Rattle.xd_laws.proofs.FitsWays.{cond_in}
-use Rattle.xd_pattern_runs.specs.Runs.{Run, runs, start, held}
+use Rattle.xd_pattern_runs.specs.Runs.{MarkedRun, runs, start, trace}
 use Rattle.xd_pattern_runs.specs.Linear.{BindNothing, IsApart, IsLinear, given, joined}
 use Rattle.xd_pattern_runs.specs.Laws.{Agree, GivenOnce, GivenNever, FirstRunIsFirstMatch, RunsAreWays, WaysAreRuns, RunsDecide, run_bindings, first_of}
 use Rattle.xd_pattern_runs.specs.Alike.{Holding, Alike, pick}
@@ -31,17 +32,17 @@ use Rattle.xd_pattern_runs.proofs.RunsMean.{done, outcome, runs_mean, fine_start
 
 -- where variables occur again, though not within their own binders, the run gives all that is bound
 -- to them, joined
-abbrev AgreeJoined : Document → Run → List (List ℕ × Document) → Type 0
-AgreeJoined d r bs = (x : List ℕ) → joined (given x bs) ≡ held x d r
+abbrev AgreeJoined : Document → MarkedRun → List (List ℕ × Document) → Type 0
+AgreeJoined d r bs = (x : List ℕ) → joined (given x bs) ≡ held d (trace x r)
 
-abbrev FirstAgreeJoined : Document → List Run → Option (List (List ℕ × Document)) → Type 0
+abbrev FirstAgreeJoined : Document → List MarkedRun → Option (List (List ℕ × Document)) → Type 0
 FirstAgreeJoined d [] None = Unit {0}
 FirstAgreeJoined d [] (Some bs) = ⊥
 FirstAgreeJoined d (r ∷ rs) None = ⊥
 FirstAgreeJoined d (r ∷ rs) (Some bs) = AgreeJoined d r bs
 
 -- there is a first run exactly where there is a first match, and they agree
-abbrev FirstAgree : List (List ℕ) → Document → List Run → Option (List (List ℕ × Document)) → Type 0
+abbrev FirstAgree : List (List ℕ) → Document → List MarkedRun → Option (List (List ℕ × Document)) → Type 0
 FirstAgree xs d [] None = Unit {0}
 FirstAgree xs d [] (Some bs) = ⊥
 FirstAgree xs d (r ∷ rs) None = ⊥
@@ -89,28 +90,28 @@ abbrev or_nothing : Option Holding → Holding
 or_nothing None = λ x. empty
 or_nothing (Some h) = h
 
-first_joined : (d : Document) (rs : List Run) (o : Option (List (List ℕ × Document))) → pick (λ h. Some h) (map (outcome d) rs) ≡ gives_some o → FirstAgreeJoined d rs o
+first_joined : (d : Document) (rs : List MarkedRun) (o : Option (List (List ℕ × Document))) → pick (λ h. Some h) (map (outcome d) rs) ≡ gives_some o → FirstAgreeJoined d rs o
 first_joined d [] None e = tt
 first_joined d [] (Some bs) e = cc
 first_joined d (r ∷ rs) None e = cc
 first_joined d (r ∷ rs) (Some bs) e = λ x. sym (ap (λ o. or_nothing o x) e)
 
 -- runs that hold what the whole ways give
-abbrev pub HoldWays : Definitions → Tree → Document → List Run → Type 0
+abbrev pub HoldWays : Definitions → Tree → Document → List MarkedRun → Type 0
 HoldWays E P d rs = Alike (map (outcome d) rs) (flat_map whole_one (ways E P d))
 
-first_of_apart : (E : Definitions) (P : Tree) (d : Document) (rs : List Run) → HoldWays E P d rs → FirstAgreeJoined d rs (first E P d)
+first_of_apart : (E : Definitions) (P : Tree) (d : Document) (rs : List MarkedRun) → HoldWays E P d rs → FirstAgreeJoined d rs (first E P d)
 first_of_apart E P d rs h = first_joined d rs (first E P d) (h.first (λ k. Some k) ∙ pick_whole (ways E P d))
 
 -- a single document, joined, is that document
 one_joined : (ds : List Document) (e h : Document) → ds ≡ e ∷ [] → joined ds ≡ h → ds ≡ h ∷ []
 one_joined ds e h i j = i ∙ ap (λ z. z ∷ []) (sym (join_empty-right e) ∙ sym (ap joined i) ∙ j)
 
-agrees : (E : Definitions) → BindNothing E → (P : Tree) → IsLinear P → (d : Document) (r : Run) (w : Way) → Among w (ways E P d) → AgreeJoined d r w.bindings → Agree (occurrences P) d r w.bindings
+agrees : (E : Definitions) → BindNothing E → (P : Tree) → IsLinear P → (d : Document) (r : MarkedRun) (w : Way) → Among w (ways E P d) → AgreeJoined d r w.bindings → Agree (occurrences P) d r w.bindings
 agrees E none P l d r w m h x = go (has_word (occurrences P) x) refl
   where
-    go : (b : Bool) → has_word (occurrences P) x ≡ b → given x w.bindings ≡ cond b (held x d r ∷ []) []
-    go true k = let i = bound_once E none P l x k d w m in one_joined (given x w.bindings) i.0 (held x d r) i.1 (h x)
+    go : (b : Bool) → has_word (occurrences P) x ≡ b → given x w.bindings ≡ cond b (held d (trace x r) ∷ []) []
+    go true k = let i = bound_once E none P l x k d w m in one_joined (given x w.bindings) i.0 (held d (trace x r)) i.1 (h x)
     go false k = unbound E none P x k d w m
 
 -- bindings of a variable, looked up and listed
@@ -162,7 +163,7 @@ first_is_way (w ∷ ws) bs e = go (is_whole w) e (first_is_way ws bs)
     go true k rec = (w, inl refl, cc)
     go false k rec = let r = rec k in (r.0, inr r.1, r.2)
 
-first_agree : (E : Definitions) → BindNothing E → (P : Tree) → IsLinear P → (d : Document) (rs : List Run) (o : Option (List (List ℕ × Document))) → first E P d ≡ o →
+first_agree : (E : Definitions) → BindNothing E → (P : Tree) → IsLinear P → (d : Document) (rs : List MarkedRun) (o : Option (List (List ℕ × Document))) → first E P d ≡ o →
     FirstAgreeJoined d rs o → FirstAgree (occurrences P) d rs o
 first_agree E none P l d [] None e h = tt
 first_agree E none P l d [] (Some bs) e h = h
@@ -172,21 +173,21 @@ first_agree E none P l d (r ∷ rs) (Some bs) e h =
     subst (Agree (occurrences P) d r) q.2 (agrees E none P l d r q.0 q.1 (subst (AgreeJoined d r) (sym q.2) h))
 
 -- each variable as the run gives it, in order
-in_order : (P : Tree) (d : Document) (r : Run) (bs : List (List ℕ × Document)) → Agree (occurrences P) d r bs → (xs : List (List ℕ)) →
+in_order : (P : Tree) (d : Document) (r : MarkedRun) (bs : List (List ℕ × Document)) → Agree (occurrences P) d r bs → (xs : List (List ℕ)) →
     ((x : List ℕ) → has_word xs x ≡ true → has_word (occurrences P) x ≡ true) → run_bindings xs d r ≡ bindings_in xs bs
 in_order P d r bs a [] h = refl
 in_order P d r bs a (x ∷ xs) h =
     let there : has_word (occurrences P) x ≡ true = h x (ap (λ b. b || has_word xs x) ((bytes_eq-Decides x x).1 refl)) in
-    let given_x : given x bs ≡ held x d r ∷ [] = a x ∙ ap (λ b. cond b (held x d r ∷ []) []) there in
-    let found : looked_up bs x ≡ Some (held x d r) = (given_once x bs (held x d r) given_x).0 in
-    ap (λ z. (x, held x d r) ∷ z) (in_order P d r bs a xs (λ y k. h y (or_true (bytes_eq x y) (has_word xs y) k)))
+    let given_x : given x bs ≡ held d (trace x r) ∷ [] = a x ∙ ap (λ b. cond b (held d (trace x r) ∷ []) []) there in
+    let found : looked_up bs x ≡ Some (held d (trace x r)) = (given_once x bs (held d (trace x r)) given_x).0 in
+    ap (λ z. (x, held d (trace x r)) ∷ z) (in_order P d r bs a xs (λ y k. h y (or_true (bytes_eq x y) (has_word xs y) k)))
     ∙ ap (λ o. bound_to x o ++ bindings_in xs bs) (sym found)
   where
     or_true : (b c : Bool) → c ≡ true → (b || c) ≡ true
     or_true true c e = refl
     or_true false c e = e
 
-first_binds : (E : Definitions) (P : Tree) (d : Document) (rs : List Run) (o : Option (List (List ℕ × Document))) → FirstAgree (occurrences P) d rs o →
+first_binds : (E : Definitions) (P : Tree) (d : Document) (rs : List MarkedRun) (o : Option (List (List ℕ × Document))) → FirstAgree (occurrences P) d rs o →
     option_map (run_bindings (variables_of P) d) (first_of rs) ≡ option_map (bindings_in (variables_of P)) o
 first_binds E P d [] None a = refl
 first_binds E P d [] (Some bs) a = absurd a
@@ -194,11 +195,11 @@ first_binds E P d (r ∷ rs) None a = absurd a
 first_binds E P d (r ∷ rs) (Some bs) a = ap (λ z. Some z) (in_order P d r bs a (variables_of P) (has_once (occurrences P)))
 
 -- for a linear pattern
-module _ (E : Definitions) (guarded : Guarded E) (none : BindNothing E) (P : Tree) (l : IsLinear P) (d : Document) (rs : List Run) (h : HoldWays E P d rs) where
+module _ (E : Definitions) (guarded : Guarded E) (none : BindNothing E) (P : Tree) (l : IsLinear P) (d : Document) (rs : List MarkedRun) (h : HoldWays E P d rs) where
   pub first_is_first : option_map (run_bindings (variables_of P) d) (first_of rs) ≡ first_bindings E P d
   first_is_first = first_binds E P d rs (first E P d) (first_agree E none P l d rs (first E P d) refl (first_of_apart E P d rs h))
 
-  pub run_is_way : (r : Run) → Among r rs → (w : Way) × IsWholeWay E P d w × Agree (occurrences P) d r w.bindings
+  pub run_is_way : (r : MarkedRun) → Among r rs → (w : Way) × IsWholeWay E P d w × Agree (occurrences P) d r w.bindings
   run_is_way r m =
       let q = mem_flat whole_one (outcome d r) (ways E P d) (h.into (outcome d r) (map_mem (outcome d) r rs m)) in
       let c = cond_true (is_whole q.0) (outcome d r) _ q.2 in
@@ -208,13 +209,13 @@ module _ (E : Definitions) (guarded : Guarded E) (none : BindNothing E) (P : Tre
       same w (inl e) = λ x. ap (λ (k : Holding). k x) e
       same w (inr o) = absurd o
 
-  pub way_is_run : (w : Way) → IsWholeWay E P d w → (r : Run) × Among r rs × Agree (occurrences P) d r w.bindings
+  pub way_is_run : (w : Way) → IsWholeWay E P d w → (r : MarkedRun) × Among r rs × Agree (occurrences P) d r w.bindings
   way_is_run w m =
       let i = flat_mem whole_one (gives w.bindings) w (ways E P d) m.0 (cond_in (is_whole w) (gives w.bindings) (gives w.bindings ∷ []) m.1 (inl refl)) in
       let q = mem_map (outcome d) (gives w.bindings) rs (h.back (gives w.bindings) i) in
       (q.0, q.1, agrees E none P l d q.0 w m.0 (λ x. sym (ap (λ (k : Holding). k x) q.2)))
 
-  pub run_where_fits : ((r : Run) × Among r rs) ↔ Fits E (bare P) d
+  pub run_where_fits : ((r : MarkedRun) × Among r rs) ↔ Fits E (bare P) d
   run_where_fits = (
     λ t. let q = run_is_way t.0 t.1 in fits_bare E (takes_fits E P d (q.0, q.1)),
     λ f. let t = fits_takes E guarded P d (bare_fits E P d f) in let q = way_is_run t.0 t.1 in (q.0, q.1),

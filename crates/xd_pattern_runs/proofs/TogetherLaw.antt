@@ -5,16 +5,17 @@ use Rattle.std.specs.Str.{bytes_eq}
 use Rattle.std.proofs.lemmas.Bool.{or_parts}
 use Rattle.xd_doc.specs.Document.{Document, empty, text, element}
 use Rattle.xd_doc.specs.Classes.{LabelClass, class_has, TextClass}
+use Rattle.xd_doc.specs.Runs.{at_end, at_text, at_element, IsFree, IsBlock, IsTogether}
 use Rattle.xd_syntax.specs.Words.{has_word}
 use Rattle.xd_syntax.specs.Tree.{Tree, Empty, Text, Words, Name, Elem, Seq, Alt, Star, Plus, Opt, Val, Definitions, body, occurrences}
 use Rattle.xd_meaning.specs.Heads.{all_texts}
 use Rattle.xd_syntax.specs.Ways.{Among}
 use Rattle.xd_syntax.proofs.Members.{mem_append, mem_map, mem_flat, cond_true}
 use Rattle.xd_laws.proofs.Unfoldings.{same_word_eq}
-use Rattle.xd_pattern_runs.specs.Runs.{Piece, Continuation, Choice, stop, take_text, take_element, start, in_place, then_choices, one_stop, has_stop, choices_by, choices_of_definition, choices_of_name, choices_within, choices, Run, ended, over_text, over_element, texts_of, elements_of, text_runs, element_runs, runs}
+use Rattle.xd_pattern_runs.specs.Runs.{Piece, Continuation, Choice, stop, take_text, take_element, start, in_place, then_choices, one_stop, has_stop, choices_by, choices_of_definition, choices_of_name, choices_within, choices, MarkedRun, texts_of, elements_of, text_runs, element_runs, runs, trace}
 use Rattle.xd_pattern_runs.specs.Linear.{BindNothing, IsLinear}
 use Rattle.xd_pattern_runs.specs.Finite.{IsReached, from_start, behind_text, behind_element, in_element, IsUnmarked, MarksAreVariables}
-use Rattle.xd_pattern_runs.specs.Together.{IsFree, free_end, free_text, free_element, IsBlock, block_end, block_text, block_element, AreTogether, from_here, past_text, past_element, in_content, RunsKeepTogether}
+use Rattle.xd_pattern_runs.specs.Together.{RunsKeepTogether}
 use Rattle.xd_pattern_runs.proofs.Bindings.{in_neither}
 use Rattle.xd_pattern_runs.proofs.Factor.{piece, one_stop_in}
 use Rattle.xd_pattern_runs.proofs.RunsMean.{by_text, by_element, texts_flat, elements_flat}
@@ -297,104 +298,113 @@ module _ (E : Definitions) (none : BindNothing E) (x : List ℕ) (n : ℕ) where
       (ahead_by (choices_of_name E n) x (names_placed E none x n) p.part p.marks (f.0).0 (f.0).1)
   ahead_within (p ∷ K) (inr (inr f)) = λ c m. open_stays x c (open_within (p ∷ K) f c m)
 
--- the runs
+-- the runs, and what they give the variable
 
-abbrev AllRuns : (Run → Type 0) → List Run → Type 0
-AllRuns Q rs = (r : Run) → Among r rs → Q r
+abbrev FreeOf : List ℕ → MarkedRun → Type 0
+FreeOf x r = IsFree (trace x r)
 
-run_one : (Q : Run → Type 0) (s r : Run) → Q s → Among r (s ∷ []) → Q r
+abbrev BlockOf : List ℕ → MarkedRun → Type 0
+BlockOf x r = IsBlock (trace x r)
+
+abbrev TogetherOf : List ℕ → MarkedRun → Type 0
+TogetherOf x r = IsTogether (trace x r)
+
+abbrev AllRuns : (MarkedRun → Type 0) → List MarkedRun → Type 0
+AllRuns Q rs = (r : MarkedRun) → Among r rs → Q r
+
+run_one : (Q : MarkedRun → Type 0) (s r : MarkedRun) → Q s → Among r (s ∷ []) → Q r
 run_one Q s r q (inl e) = subst Q e q
 run_one Q s r q (inr m) = absurd m
 
 -- the runs by a choice over a text, from those over the rest
-text_all : (Q : Run → Type 0) (R : Continuation → List Run) (t : List ℕ) (c : Choice) →
-    ((w : TextClass) (xs : List (List ℕ)) (K : Continuation) → c ≡ take_text w xs K → (r : Run) → Among r (R K) → Q (over_text xs r)) → AllRuns Q (by_text (text_runs R t) c)
+text_all : (Q : MarkedRun → Type 0) (R : Continuation → List MarkedRun) (t : List ℕ) (c : Choice) →
+    ((w : TextClass) (xs : List (List ℕ)) (K : Continuation) → c ≡ take_text w xs K → (r : MarkedRun) → Among r (R K) → Q (at_text xs r)) → AllRuns Q (by_text (text_runs R t) c)
 text_all Q R t stop h r m = absurd m
 text_all Q R t (take_element c C xs K) h r m = absurd m
 text_all Q R t (take_text w xs K) h r m =
-    let a = cond_true (class_has w t) r (map (over_text xs) (R K)) m in
-    let q = mem_map (over_text xs) r (R K) a.1 in subst Q q.2 (h w xs K refl q.0 q.1)
+    let a = cond_true (class_has w t) r (map (at_text xs) (R K)) m in
+    let q = mem_map (at_text xs) r (R K) a.1 in subst Q q.2 (h w xs K refl q.0 q.1)
 
-element_all : (Q : Run → Type 0) (I R : Continuation → List Run) (l : List ℕ) (c : Choice) →
-    ((k : LabelClass) (C : Continuation) (xs : List (List ℕ)) (K : Continuation) → c ≡ take_element k C xs K → (q r : Run) → Among q (I C) → Among r (R K) → Q (over_element xs q r)) →
+element_all : (Q : MarkedRun → Type 0) (I R : Continuation → List MarkedRun) (l : List ℕ) (c : Choice) →
+    ((k : LabelClass) (C : Continuation) (xs : List (List ℕ)) (K : Continuation) → c ≡ take_element k C xs K → (q r : MarkedRun) → Among q (I C) → Among r (R K) → Q (at_element xs q r)) →
     AllRuns Q (by_element (element_runs I R l) c)
 element_all Q I R l stop h r m = absurd m
 element_all Q I R l (take_text w xs K) h r m = absurd m
 element_all Q I R l (take_element k C xs K) h r m =
     let a = cond_true (class_has k l) r _ m in
-    let p = mem_flat (λ q. map (over_element xs q) (R K)) r (I C) a.1 in
-    let q = mem_map (over_element xs p.0) r (R K) p.2 in
+    let p = mem_flat (λ q. map (at_element xs q) (R K)) r (I C) a.1 in
+    let q = mem_map (at_element xs p.0) r (R K) p.2 in
     subst Q q.2 (h k C xs K refl p.0 q.0 p.1 q.1)
 
-text_choice : (E : Definitions) (t : List ℕ) (d : Document) (K : Continuation) (r : Run) → Among r (flat_map (text_runs (runs E d) t) (texts_of (choices E K))) →
+text_choice : (E : Definitions) (t : List ℕ) (d : Document) (K : Continuation) (r : MarkedRun) → Among r (flat_map (text_runs (runs E d) t) (texts_of (choices E K))) →
     (c : Choice) × Among c (choices E K) × Among r (by_text (text_runs (runs E d) t) c)
 text_choice E t d K r m = mem_flat (by_text (text_runs (runs E d) t)) r (choices E K) (subst (Among r) (texts_flat (text_runs (runs E d) t) (choices E K)) m)
 
-element_choice : (E : Definitions) (l : List ℕ) (k d : Document) (K : Continuation) (r : Run) → Among r (flat_map (element_runs (runs E k) (runs E d) l) (elements_of (choices E K))) →
+element_choice : (E : Definitions) (l : List ℕ) (k d : Document) (K : Continuation) (r : MarkedRun) → Among r (flat_map (element_runs (runs E k) (runs E d) l) (elements_of (choices E K))) →
     (c : Choice) × Among c (choices E K) × Among r (by_element (element_runs (runs E k) (runs E d) l) c)
 element_choice E l k d K r m =
     mem_flat (by_element (element_runs (runs E k) (runs E d) l)) r (choices E K) (subst (Among r) (elements_flat (element_runs (runs E k) (runs E d) l) (choices E K)) m)
 
-end_all : (Q : Run → Type 0) → Q ended → (b : Bool) → AllRuns Q (cond b (ended ∷ []) [])
-end_all Q q b r m = let a = cond_true b r (ended ∷ []) m in run_one Q ended r q a.1
+end_all : (Q : MarkedRun → Type 0) → Q at_end → (b : Bool) → AllRuns Q (cond b (at_end ∷ []) [])
+end_all Q q b r m = let a = cond_true b r (at_end ∷ []) m in run_one Q at_end r q a.1
 
 module _ (E : Definitions) (none : BindNothing E) (x : List ℕ) where
   stay_clear : (K : Continuation) → IsClear x K → AllHave (StayClear x) (choices E K)
   stay_clear K f = clear_within E none x (length E) K f
 
-  free_runs : (d : Document) (K : Continuation) → IsClear x K → AllRuns (IsFree x) (runs E d K)
-  free_runs empty K f = end_all (IsFree x) free_end (has_stop (choices E K))
+  free_runs : (d : Document) (K : Continuation) → IsClear x K → AllRuns (FreeOf x) (runs E d K)
+  free_runs empty K f = end_all (FreeOf x) tt (has_stop (choices E K))
   free_runs (text s d) K f = λ r m.
       let p = text_choice E s d K r m in
-      text_all (IsFree x) (runs E d) s p.0 (λ u xs L e q n. let w : StayClear x (take_text u xs L) = subst (StayClear x) e (stay_clear K f p.0 p.1) in
-      free_text w.0 (free_runs d L w.1 q n)) r p.2
+      text_all (FreeOf x) (runs E d) s p.0 (λ u xs L e q n. let w : StayClear x (take_text u xs L) = subst (StayClear x) e (stay_clear K f p.0 p.1) in
+      (w.0, free_runs d L w.1 q n)) r p.2
   free_runs (element l k d) K f = λ r m.
       let p = element_choice E l k d K r m in
-      element_all (IsFree x) (runs E k) (runs E d) l p.0 (λ c C xs L e q o n i. let w : StayClear x (take_element c C xs L) = subst (StayClear x) e (stay_clear K f p.0 p.1) in
-      free_element w.0 (free_runs k C w.1 q n) (free_runs d L w.2 o i)) r p.2
+      element_all (FreeOf x) (runs E k) (runs E d) l p.0 (λ c C xs L e q o n i. let w : StayClear x (take_element c C xs L) = subst (StayClear x) e (stay_clear K f p.0 p.1) in
+      (w.0, free_runs k C w.1 q n, free_runs d L w.2 o i)) r p.2
 
-  block_by_text : (d : Document) → ((K : Continuation) → IsOpen x K → AllRuns (IsBlock x) (runs E d K)) → (u : TextClass) (xs : List (List ℕ)) (L : Continuation) → StayOpen x (take_text u xs L) →
-      (q : Run) → Among q (runs E d L) → IsBlock x (over_text xs q)
-  block_by_text d h u xs L (inl w) q n = block_text w.0 (h L w.1 q n)
-  block_by_text d h u xs L (inr w) q n = block_end (free_text w.0 (free_runs d L w.1 q n))
+  block_by_text : (d : Document) → ((K : Continuation) → IsOpen x K → AllRuns (BlockOf x) (runs E d K)) → (u : TextClass) (xs : List (List ℕ)) (L : Continuation) → StayOpen x (take_text u xs L) →
+      (q : MarkedRun) → Among q (runs E d L) → BlockOf x (at_text xs q)
+  block_by_text d h u xs L (inl w) q n = inl (w.0, h L w.1 q n)
+  block_by_text d h u xs L (inr w) q n = inr (w.0, free_runs d L w.1 q n)
 
-  block_by_element : (k d : Document) → ((K : Continuation) → IsOpen x K → AllRuns (IsBlock x) (runs E d K)) → (c : LabelClass) (C : Continuation) (xs : List (List ℕ)) (L : Continuation) →
-      StayOpen x (take_element c C xs L) → (q o : Run) → Among q (runs E k C) → Among o (runs E d L) → IsBlock x (over_element xs q o)
-  block_by_element k d h c C xs L (inl w) q o n i = block_element w.0 (free_runs k C w.1 q n) (h L w.2 o i)
-  block_by_element k d h c C xs L (inr w) q o n i = block_end (free_element w.0 (free_runs k C w.1 q n) (free_runs d L w.2 o i))
+  block_by_element : (k d : Document) → ((K : Continuation) → IsOpen x K → AllRuns (BlockOf x) (runs E d K)) → (c : LabelClass) (C : Continuation) (xs : List (List ℕ)) (L : Continuation) →
+      StayOpen x (take_element c C xs L) → (q o : MarkedRun) → Among q (runs E k C) → Among o (runs E d L) → BlockOf x (at_element xs q o)
+  block_by_element k d h c C xs L (inl w) q o n i = inl (w.0, free_runs k C w.1 q n, h L w.2 o i)
+  block_by_element k d h c C xs L (inr w) q o n i = inr (w.0, free_runs k C w.1 q n, free_runs d L w.2 o i)
 
-  block_runs : (d : Document) (K : Continuation) → IsOpen x K → AllRuns (IsBlock x) (runs E d K)
-  block_runs empty K f = end_all (IsBlock x) (block_end free_end) (has_stop (choices E K))
+  block_runs : (d : Document) (K : Continuation) → IsOpen x K → AllRuns (BlockOf x) (runs E d K)
+  block_runs empty K f = end_all (BlockOf x) tt (has_stop (choices E K))
   block_runs (text s d) K f = λ r m.
       let p = text_choice E s d K r m in
-      text_all (IsBlock x) (runs E d) s p.0 (λ u xs L e q n.
+      text_all (BlockOf x) (runs E d) s p.0 (λ u xs L e q n.
       block_by_text d (λ M g. block_runs d M g) u xs L (subst (StayOpen x) e (open_within E none x (length E) K f p.0 p.1)) q n) r p.2
   block_runs (element l k d) K f = λ r m.
       let p = element_choice E l k d K r m in
-      element_all (IsBlock x) (runs E k) (runs E d) l p.0 (λ c C xs L e q o n i.
+      element_all (BlockOf x) (runs E k) (runs E d) l p.0 (λ c C xs L e q o n i.
       block_by_element k d (λ M g. block_runs d M g) c C xs L (subst (StayOpen x) e (open_within E none x (length E) K f p.0 p.1)) q o n i) r p.2
 
-  together_by_text : (d : Document) → ((K : Continuation) → IsAhead x K → AllRuns (AreTogether x) (runs E d K)) → (u : TextClass) (xs : List (List ℕ)) (L : Continuation) → StayAhead x (take_text u xs L) →
-      (q : Run) → Among q (runs E d L) → AreTogether x (over_text xs q)
-  together_by_text d h u xs L (inl w) q n = past_text w.0 (h L w.1 q n)
-  together_by_text d h u xs L (inr w) q n = from_here (block_text w.0 (block_runs d L w.1 q n))
+  together_by_text : (d : Document) → ((K : Continuation) → IsAhead x K → AllRuns (TogetherOf x) (runs E d K)) → (u : TextClass) (xs : List (List ℕ)) (L : Continuation) → StayAhead x (take_text u xs L) →
+      (q : MarkedRun) → Among q (runs E d L) → TogetherOf x (at_text xs q)
+  together_by_text d h u xs L (inl w) q n = inr (w.0, h L w.1 q n)
+  together_by_text d h u xs L (inr w) q n = inl (w.0, block_runs d L w.1 q n)
 
-  together_by_element : (k d : Document) → ((K : Continuation) → IsAhead x K → AllRuns (AreTogether x) (runs E k K)) → ((K : Continuation) → IsAhead x K → AllRuns (AreTogether x) (runs E d K)) →
+  together_by_element : (k d : Document) → ((K : Continuation) → IsAhead x K → AllRuns (TogetherOf x) (runs E k K)) → ((K : Continuation) → IsAhead x K → AllRuns (TogetherOf x) (runs E d K)) →
       (c : LabelClass) (C : Continuation) (xs : List (List ℕ)) (L : Continuation) →
-      StayAhead x (take_element c C xs L) → (q o : Run) → Among q (runs E k C) → Among o (runs E d L) → AreTogether x (over_element xs q o)
-  together_by_element k d g h c C xs L (inl w) q o n i = past_element w.0 (free_runs k C w.1 q n) (h L w.2 o i)
-  together_by_element k d g h c C xs L (inr (inl w)) q o n i = from_here (block_element w.0 (free_runs k C w.1 q n) (block_runs d L w.2 o i))
-  together_by_element k d g h c C xs L (inr (inr w)) q o n i = in_content w.0 (g C w.1 q n) (free_runs d L w.2 o i)
+      StayAhead x (take_element c C xs L) → (q o : MarkedRun) → Among q (runs E k C) → Among o (runs E d L) → TogetherOf x (at_element xs q o)
+  together_by_element k d g h c C xs L (inl w) q o n i = inr (w.0, inl (free_runs k C w.1 q n, h L w.2 o i))
+  together_by_element k d g h c C xs L (inr (inl w)) q o n i = inl (w.0, free_runs k C w.1 q n, block_runs d L w.2 o i)
+  together_by_element k d g h c C xs L (inr (inr w)) q o n i = inr (w.0, inr (g C w.1 q n, free_runs d L w.2 o i))
 
-  together_runs : (d : Document) (K : Continuation) → IsAhead x K → AllRuns (AreTogether x) (runs E d K)
-  together_runs empty K f = end_all (AreTogether x) (from_here (block_end free_end)) (has_stop (choices E K))
+  together_runs : (d : Document) (K : Continuation) → IsAhead x K → AllRuns (TogetherOf x) (runs E d K)
+  together_runs empty K f = end_all (TogetherOf x) tt (has_stop (choices E K))
   together_runs (text s d) K f = λ r m.
       let p = text_choice E s d K r m in
-      text_all (AreTogether x) (runs E d) s p.0 (λ u xs L e q n.
+      text_all (TogetherOf x) (runs E d) s p.0 (λ u xs L e q n.
       together_by_text d (λ M g. together_runs d M g) u xs L (subst (StayAhead x) e (ahead_within E none x (length E) K f p.0 p.1)) q n) r p.2
   together_runs (element l k d) K f = λ r m.
       let p = element_choice E l k d K r m in
-      element_all (AreTogether x) (runs E k) (runs E d) l p.0 (λ c C xs L e q o n i.
+      element_all (TogetherOf x) (runs E k) (runs E d) l p.0 (λ c C xs L e q o n i.
       together_by_element k d (λ M g. together_runs k M g) (λ M g. together_runs d M g) c C xs L (subst (StayAhead x) e (ahead_within E none x (length E) K f p.0 p.1)) q o n i) r p.2
 
 -- the items of a variable stand together

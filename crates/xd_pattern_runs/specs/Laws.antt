@@ -2,6 +2,7 @@
 use Rattle.xd_meaning.specs.Bindings.{variables_of, first_bindings}
 use Rattle.std.specs.Prelude.{◌≡◌, ℕ, cond, ◌↔◌, List, [], ◌∷◌, Option, Some, None, map, option_map}
 use Rattle.xd_doc.specs.Document.{Document}
+use Rattle.xd_doc.specs.Runs.{held}
 use Rattle.xd_syntax.specs.Words.{has_word}
 use Rattle.xd_syntax.specs.Tree.{Tree, Definitions, occurrences}
 use Rattle.xd_laws.specs.Laws.{bare}
@@ -13,7 +14,7 @@ use Rattle.xd_syntax.specs.NameFaults.{pattern_faults}
 use Rattle.xd_syntax.specs.Ways.{Way, Among, IsWholeWay}
 use Rattle.xd_laws.specs.Guarded.{Guarded}
 use Rattle.xd_meaning.specs.Meaning.{looked_up}
-use Rattle.xd_pattern_runs.specs.Runs.{Run, runs, start, held}
+use Rattle.xd_pattern_runs.specs.Runs.{MarkedRun, runs, start, trace}
 use Rattle.xd_pattern_runs.specs.Linear.{BindNothing, IsLinear, given}
 
 -- the types of a proper program bind nothing
@@ -26,8 +27,8 @@ NoFaultIsLinear = (known : List (List ℕ)) (P : PlacedTree) → pattern_faults 
 
 -- each of the variables is bound once, to the items that the run gives it, and nothing else is
 -- bound
-abbrev pub Agree : List (List ℕ) → Document → Run → List (List ℕ × Document) → Type 0
-Agree xs d r bs = (x : List ℕ) → given x bs ≡ cond (has_word xs x) (held x d r ∷ []) []
+abbrev pub Agree : List (List ℕ) → Document → MarkedRun → List (List ℕ × Document) → Type 0
+Agree xs d r bs = (x : List ℕ) → given x bs ≡ cond (has_word xs x) (held d (trace x r) ∷ []) []
 
 -- a variable that is bound once is looked up as that, and has no other binding
 abbrev pub GivenOnce : Type 0
@@ -39,10 +40,10 @@ abbrev pub GivenNever : Type 0
 GivenNever = (x : List ℕ) (bs : List (List ℕ × Document)) → given x bs ≡ [] → (looked_up bs x ≡ None) × ((f : Document) → Among (x, f) bs → ⊥)
 
 -- what the run gives each of the variables
-abbrev pub run_bindings : List (List ℕ) → Document → Run → List (List ℕ × Document)
-run_bindings xs d r = map (λ x. (x, held x d r)) xs
+abbrev pub run_bindings : List (List ℕ) → Document → MarkedRun → List (List ℕ × Document)
+run_bindings xs d r = map (λ x. (x, held d (trace x r))) xs
 
-abbrev pub first_of : List Run → Option Run
+abbrev pub first_of : List MarkedRun → Option MarkedRun
 first_of [] = None
 first_of (r ∷ rs) = Some r
 
@@ -54,16 +55,16 @@ FirstRunIsFirstMatch = (E : Definitions) → Guarded E → BindNothing E → (P 
 
 -- each run is some whole way
 abbrev pub RunsAreWays : Type 0
-RunsAreWays = (E : Definitions) → Guarded E → BindNothing E → (P : Tree) → IsLinear P → (d : Document) (r : Run) →
+RunsAreWays = (E : Definitions) → Guarded E → BindNothing E → (P : Tree) → IsLinear P → (d : Document) (r : MarkedRun) →
     Among r (runs E d (start P)) → (w : Way) × IsWholeWay E P d w × Agree (occurrences P) d r w.bindings
 
 -- each whole way is some run
 abbrev pub WaysAreRuns : Type 0
 WaysAreRuns = (E : Definitions) → Guarded E → BindNothing E → (P : Tree) → IsLinear P → (d : Document) (w : Way) →
-    IsWholeWay E P d w → (r : Run) × Among r (runs E d (start P)) × Agree (occurrences P) d r w.bindings
+    IsWholeWay E P d w → (r : MarkedRun) × Among r (runs E d (start P)) × Agree (occurrences P) d r w.bindings
 
 -- there is a run over the documents that fit the pattern with its binders dropped, and over no
 -- others
 abbrev pub RunsDecide : Type 0
 RunsDecide = (E : Definitions) → Guarded E → BindNothing E → (P : Tree) → IsLinear P → (d : Document) →
-    ((r : Run) × Among r (runs E d (start P))) ↔ Fits E (bare P) d
+    ((r : MarkedRun) × Among r (runs E d (start P))) ↔ Fits E (bare P) d

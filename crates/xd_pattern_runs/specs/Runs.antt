@@ -2,8 +2,9 @@
 -- preference, and the runs over a document. The states of the automaton of a pattern are these
 -- continuations.
 use Rattle.std.specs.Prelude.{ℕ, suc, zero, Bool, true, false, cond, List, [], ◌∷◌, ◌++◌, map, flat_map, length, Option, Some, None}
-use Rattle.xd_doc.specs.Document.{Document, empty, text, element, join}
+use Rattle.xd_doc.specs.Document.{Document, empty, text, element}
 use Rattle.xd_doc.specs.Classes.{LabelClass, TextClass, class_has}
+use Rattle.xd_doc.specs.Runs.{Run, Trace, at_end, at_text, at_element, map_run}
 use Rattle.xd_syntax.specs.Words.{has_word}
 use Rattle.xd_syntax.specs.Tree.{Tree, Empty, Text, Words, Name, Elem, Seq, Alt, Star, Plus, Opt, Val, Definitions, body}
 use Rattle.xd_meaning.specs.Heads.{all_texts}
@@ -132,40 +133,32 @@ elements_of (take_element c C xs R ∷ cs) = record { class = c; content = C; ma
 abbrev pub moves : Definitions → Continuation → Moves Continuation
 moves E K = record { last = has_stop (choices E K); texts = texts_of (choices E K); elements = elements_of (choices E K) }
 
--- the items of a document taken one by one, each with the variables that it belongs to
-pub data Run : Type 0 where
-  ended : Run
-  over_text : (marks : List (List ℕ)) (rest : Run) → Run
-  over_element : (marks : List (List ℕ)) (content rest : Run) → Run
+-- for each item of a document the variables that it belongs to
+abbrev pub MarkedRun : Type 0
+MarkedRun = Run (List (List ℕ))
 
 -- the runs by a move on this text, where R gives those over the rest
-abbrev pub text_runs : {S : Type 0} → (S → List Run) → List ℕ → TextMove S → List Run
-text_runs R t m = cond (class_has m.words t) (map (over_text m.marks) (R m.rest)) []
+abbrev pub text_runs : {S : Type 0} → (S → List MarkedRun) → List ℕ → TextMove S → List MarkedRun
+text_runs R t m = cond (class_has m.words t) (map (at_text m.marks) (R m.rest)) []
 
 -- and by a move on an element with the label, where C gives those over the content
-abbrev pub element_runs : {S : Type 0} → (S → List Run) → (S → List Run) → List ℕ → ElementMove S → List Run
-element_runs C R l m = cond (class_has m.class l) (flat_map (λ k. map (over_element m.marks k) (R m.rest)) (C m.content)) []
+abbrev pub element_runs : {S : Type 0} → (S → List MarkedRun) → (S → List MarkedRun) → List ℕ → ElementMove S → List MarkedRun
+element_runs C R l m = cond (class_has m.class l) (flat_map (λ k. map (at_element m.marks k) (R m.rest)) (C m.content)) []
 
 -- the runs of an automaton from a state over a whole document, in order of preference
-abbrev pub runs_by : {S : Type 0} → (S → Moves S) → Document → S → List Run
-runs_by M empty s = cond (M s).last (ended ∷ []) []
+abbrev pub runs_by : {S : Type 0} → (S → Moves S) → Document → S → List MarkedRun
+runs_by M empty s = cond (M s).last (at_end ∷ []) []
 runs_by M (text t d) s = flat_map (text_runs (runs_by M d) t) (M s).texts
 runs_by M (element l c d) s = flat_map (element_runs (runs_by M c) (runs_by M d) l) (M s).elements
 
 -- the runs from a continuation
-abbrev pub runs : Definitions → Document → Continuation → List Run
+abbrev pub runs : Definitions → Document → Continuation → List MarkedRun
 runs E d K = runs_by (moves E) d K
 
 -- the document where the variable is among the marked ones, else nothing
 abbrev pub if_marked : List (List ℕ) → List ℕ → Document → Document
 if_marked xs x d = cond (has_word xs x) d empty
 
--- the items of the document that the run gives the variable, in order
-abbrev pub held : List ℕ → Document → Run → Document
-held x empty r = empty
-held x (text s d) ended = empty
-held x (text s d) (over_text xs r) = join (if_marked xs x (text s empty)) (held x d r)
-held x (text s d) (over_element xs k r) = empty
-held x (element l c d) ended = empty
-held x (element l c d) (over_text xs r) = empty
-held x (element l c d) (over_element xs k r) = join (if_marked xs x (element l c empty)) (join (held x c k) (held x d r))
+-- for each item whether it belongs to the variable
+abbrev pub trace : List ℕ → MarkedRun → Trace
+trace x r = map_run (λ xs. has_word xs x) r

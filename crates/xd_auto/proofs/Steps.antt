@@ -4,15 +4,16 @@ use Rattle.std.specs.List.{All, slice_get}
 use Rattle.std.proofs.lemmas.Option.{slice_get_within, get_or_from_slice_get}
 use Rattle.xd_doc.specs.Document.{Document, text, element}
 use Rattle.xd_doc.specs.Classes.{class_has}
+use Rattle.xd_doc.specs.Runs.{Run, at_text, at_element}
 use Rattle.xd_auto.specs.declared.auto.State.{State}
 use Rattle.xd_auto.specs.declared.auto.LabelMove.{LabelMove}
 use Rattle.xd_auto.specs.declared.auto.TextMove.{TextMove}
 use Rattle.xd_auto.specs.Automaton.{Automaton, IsState, IsClosed, moves_at}
 use Rattle.xd_auto.specs.Copying.{LabelBelow}
-use Rattle.xd_auto.specs.Runs.{Run, takes_text, takes_element, IsAcceptingRun}
+use Rattle.xd_auto.specs.Runs.{IsAcceptingRun}
 use Rattle.xd_auto.proofs.Anys.{IsSomeAnd-parts}
 use Rattle.xd_auto.proofs.Closed.{moves_at-closed}
-use Rattle.xd_auto_pairs.specs.Traces.{text_rest_or, content_or, rest_or, after_text, in_element, after_element}
+use Rattle.xd_auto.specs.Traces.{text_rest_or, content_or, rest_or, after_text, in_element, after_element}
 
 pub All-there : {X : Type 0} (P : X → Type 0) (xs : List X) (n : ℕ) (x : X) → All P xs → slice_get xs n ≡ Some x → P x
 All-there P xs n x h e = subst P (get_or_from_slice_get xs n x x e) (h n x (slice_get_within xs n x e))
@@ -39,12 +40,12 @@ pub record TakesElement (a : Automaton) (s : State) (n : ℕ) (l : List ℕ) (Co
   pub content : Content step.content
   pub rest : Rest step.rest
 
-pub takes_text_at : (a : Automaton) (t : List ℕ) (d : Document) (s : State) (n : ℕ) (r : Run) → IsAcceptingRun a (text t d) s (takes_text n r) → TakesText a s n t (λ q. IsAcceptingRun a d q r)
+pub takes_text_at : (a : Automaton) (t : List ℕ) (d : Document) (s : State) (n : ℕ) (r : Run ℕ) → IsAcceptingRun a (text t d) s (at_text n r) → TakesText a s n t (λ q. IsAcceptingRun a d q r)
 takes_text_at a t d s n r h =
     let f = IsSomeAnd-parts (slice_get (moves_at a s).texts n) (λ (m : TextMove). (class_has m.words t ≡ true) × IsAcceptingRun a d m.rest r) h in
     record { step = f.item; there = f.is; onto = ap (λ (o : Option TextMove). text_rest_or s o) f.is; has = f.holds.0; rest = f.holds.1 }
 
-pub takes_element_at : (a : Automaton) (l : List ℕ) (c d : Document) (s : State) (n : ℕ) (k r : Run) → IsAcceptingRun a (element l c d) s (takes_element n k r)
+pub takes_element_at : (a : Automaton) (l : List ℕ) (c d : Document) (s : State) (n : ℕ) (k r : Run ℕ) → IsAcceptingRun a (element l c d) s (at_element n k r)
     → TakesElement a s n l (λ q. IsAcceptingRun a c q k) (λ q. IsAcceptingRun a d q r)
 takes_element_at a l c d s n k r h =
     let f = IsSomeAnd-parts (slice_get (moves_at a s).labels n)

@@ -9,7 +9,7 @@ use Rattle.xd_auto.specs.declared.auto.State.{State}
 use Rattle.xd_auto.specs.declared.auto.LabelMove.{LabelMove}
 use Rattle.xd_auto.specs.declared.auto.TextMove.{TextMove}
 use Rattle.xd_auto.specs.Automaton.{Automaton, IsState, StateMoves, accepts, moves_at, no_moves, with_label_move, with_moves, with_text_move}
-use Rattle.xd_auto_pairs.specs.Universal.{IsUniversal, every_name}
+use Rattle.xd_auto.specs.Universal.{IsUniversal, every_name}
 
 pub no_names : (names : List (List ℕ)) → ((l : List ℕ) → is_named names l ≡ false) → names ≡ []
 no_names [] h = refl

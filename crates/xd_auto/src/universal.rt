@@ -3,10 +3,10 @@
 ghost use Rattle.std.specs.Prelude.{◌≡◌, ◌+◌, true, length, IfOk, OnOk};
 ghost use Rattle.xd_doc.specs.Document.{Document};
 ghost use Rattle.xd_auto.specs.Automaton.{Extends, accepts};
-ghost use Rattle.xd_auto_pairs.specs.Universal.{IsUniversal};
+ghost use Rattle.xd_auto.specs.Universal.{IsUniversal};
 
+use crate::auto::{Auto, State};
 use std::alloc::Global;
-use xd_auto::{Auto, State};
 use xd_doc::{Class, NoMemory, Words};
 
 /// Adds a state that accepts every document, by one move on an element and one on a text, each back

@@ -2,8 +2,8 @@ use Rattle.std.proofs.Common.{◌≡◌, ◌∙◌, ap, sym, true, false, [], le
 use Rattle.std.proofs.lemmas.List.{get_or_at, length_push}
 use Rattle.xd_doc.specs.Classes.{is_named}
 use Rattle.xd_auto.specs.Automaton.{IsState, moves_at, no_moves}
-use Rattle.xd_auto_pairs.proofs.Universals.{accepts_all, every, universal_made}
-use Rattle.xd_auto_pairs.proofs.universal.add_universal.Goals as goal
+use Rattle.xd_auto.proofs.Universals.{accepts_all, every, universal_made}
+use Rattle.xd_auto.proofs.universal.add_universal.Goals as goal
 
 pub returns-clause-universal : goal.returns-clause-universal
 returns-clause-universal c =

@@ -1,6 +1,0 @@
-use Rattle.std.proofs.Common.{◌≡◌, ◌∷◌, map, take}
-use Rattle.xd_auto.specs.declared.auto.State.{State}
-use Rattle.xd_auto.proofs.key.StateKey.new.Given as goal
-
-abbrev pub invariant-loop-state : goal.invariant-loop-state
-invariant-loop-state l = l.numbers.items ≡ l.fn.first.number ∷ map (λ (s : State). s.number) (take l.state-index l.others)
