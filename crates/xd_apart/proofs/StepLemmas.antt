@@ -5,7 +5,7 @@ use Rattle.std.specs.List.{All, AllByRecursion, Contains, list_any}
 use Rattle.std.proofs.lemmas.Bool.{cases_lt}
 use Rattle.std.proofs.lemmas.List.Elements.{All-get_or}
 use Rattle.std.proofs.lemmas.List.{get_or_default, length-set, length-take-le, take-append-le, take-set-le}
-use Rattle.std.specs.BTreeMap.{BTreeMap}
+use Rattle.std.specs.HashMap.{HashMap}
 use Rattle.std.specs.Cmp.Lexicographic.{pointwise}
 use Rattle.std.specs.Prelude.{cond, nat_eq}
 use Rattle.std.proofs.lemmas.Slice.Eq.{bytes_eq-Decides}
@@ -16,7 +16,8 @@ use Rattle.xd_auto.specs.declared.auto.TextMove.{TextMove}
 use Rattle.xd_auto.specs.Automaton.{Automaton, IsClosed, IsState, StateMoves, accepts, moves_at, state_number, with_moves}
 use Rattle.xd_auto.proofs.Closed.{moves_at-closed, same_state}
 use Rattle.xd_boole.specs.Meaning.{PointView, any_accepts, is_last_in, less, means, with_states}
-use Rattle.xd_boole.specs.Points.{IsPointOf, MoveBelow, found_at, no_point, point_at, point_key, state_at}
+use Rattle.xd_auto.specs.Keys.{found_at}
+use Rattle.xd_boole.specs.Points.{IsPointOf, MoveBelow, no_point, point_at, point_key, state_at}
 use Rattle.xd_boole.proofs.ArePointsLemmas.{at_end, same_point}
 use Rattle.xd_boole.proofs.AnyAcceptsLemmas.{set_accepts, with_states_all, any_accepts_push}
 use Rattle.xd_apart.specs.declared.loose.Loose.{Loose}
@@ -46,7 +47,7 @@ module _ (a b : Automaton) (points : List PointView) (closed : IsClosed a) (coun
   }
 
 -- an empty map leads nowhere
-pub nothing_found : (m : BTreeMap (List ℕ) ℕ) → m.entries ≡ [] → (key : List ℕ) (i : ℕ) → found_at m key ≡ Some i → ⊥
+pub nothing_found : {S : Type 0} (m : HashMap (List ℕ) ℕ S) → m.entries ≡ [] → (key : List ℕ) (i : ℕ) → found_at m key ≡ Some i → ⊥
 nothing_found m none key i at = (let bad = rw none at at in absurd (cc bad))
 
 -- a point with one more right

@@ -7,7 +7,8 @@ use Rattle.xd_auto.specs.declared.auto.LabelMove.{LabelMove}
 use Rattle.xd_auto.specs.declared.auto.TextMove.{TextMove}
 use Rattle.xd_auto.specs.Automaton.{Automaton, IsState, LeadsBelow, StateMoves, accepts, moves_at, state_number, with_moves}
 use Rattle.xd_boole.specs.Meaning.{ElementFirst, PointView, TextFirst, element_of, less, means, text_of}
-use Rattle.xd_boole.specs.Points.{IsPointOf, found_at, point_at, point_key, state_at}
+use Rattle.xd_auto.specs.Keys.{found_at}
+use Rattle.xd_boole.specs.Points.{IsPointOf, point_at, point_key, state_at}
 use Rattle.xd_apart.specs.declared.loose.Loose.{Loose}
 
 -- the move takes the element: its label, and, by the points that the move leads to, its content and

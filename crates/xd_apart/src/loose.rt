@@ -8,11 +8,12 @@ ghost use Rattle.xd_auto.specs.declared.auto.LabelMove.{LabelMove};
 ghost use Rattle.xd_auto.specs.declared.auto.TextMove.{TextMove};
 ghost use Rattle.xd_auto.specs.Automaton.{Automaton, IsState, moves_at, state_number};
 ghost use Rattle.xd_boole.specs.Meaning.{is_last_in, less, with_states};
-ghost use Rattle.xd_boole.specs.Points.{MoveBelow, TextBelow, found_at, point_at, point_key};
+ghost use Rattle.xd_auto.specs.Keys.{found_at};
+ghost use Rattle.xd_boole.specs.Points.{MoveBelow, TextBelow, point_at, point_key};
 ghost use Rattle.xd_apart.specs.Loose.{AddsInside, AddsOutside, AddsTextInside, AddsTextOutside, DividesLabels, DividesTexts, Grows, HasMove, HasTextMove, IsLooseOver, IsRightMove, IsRightText, KeepsPoints, Narrows, ReplacesLabel, ReplacesText, StandsFor, copied, left_states};
 
+use indexmap::IndexMap;
 use std::alloc::Global;
-use std::collections::BTreeMap;
 use std::marker::Model;
 use xd_auto::{Auto, LabelMove, State, StateKey, TextMove};
 use xd_boole::{any_last, set_of};
@@ -44,7 +45,7 @@ pub(crate) struct Loose {
     pub(crate) lefts: usize,
     pub(crate) over: Auto,
     pub(crate) points: Vec<Point>,
-    pub(crate) numbers: BTreeMap<StateKey, usize>,
+    pub(crate) numbers: IndexMap<StateKey, usize>,
 }
 
 /// Equal moves.
@@ -320,7 +321,7 @@ fn replace_text(
 
 /// Puts a number under a key.
 fn put(
-    numbers: &mut BTreeMap<StateKey, usize>,
+    numbers: &mut IndexMap<StateKey, usize>,
     key: StateKey,
     number: usize,
 ) -> Result<(), NoMemory>
@@ -358,7 +359,7 @@ impl Loose {
             lefts: lefts.len(),
             over: lefts,
             points,
-            numbers: BTreeMap::new(alloc),
+            numbers: IndexMap::new(alloc),
         })
     }
 

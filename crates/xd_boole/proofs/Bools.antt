@@ -119,11 +119,6 @@ and_more true true t = refl
 and_more true false t = refl
 
 -- what implies another adds nothing beside it
-pub drop_implied : (o r k : Bool) → (r ≡ true → k ≡ true) → (o || k) ≡ ((o || r) || k)
-drop_implied true r k h = refl
-drop_implied false true k h = h refl
-drop_implied false false k h = refl
-
 pub implied_by : (o k : Bool) → (k ≡ true → o ≡ true) → o ≡ (o || k)
 implied_by true k h = refl
 implied_by false true h = h refl

@@ -1,21 +1,23 @@
 -- On choices of sides.
-use Rattle.std.proofs.Common.{◌≡◌, ℕ, ◌+◌, ◌<◌, ◌≤◌, Bool, true, false, not, ◌&&◌, ◌||◌, List, [], ◌∷◌, ◌++◌, take, length, get_or, refl, ap, sym, ◌∙◌, subst}
+use Rattle.std.proofs.Common.{◌≡◌, ℕ, ◌+◌, ◌<◌, ◌≤◌, Bool, true, false, not, ◌&&◌, ◌||◌, List, [], ◌∷◌, ◌++◌, if◌then◌else◌, filter, take, length, get_or, refl, ap, sym, ◌∙◌, subst}
 use Rattle.std.proofs.lemmas.Bool.{not-true}
 use Rattle.std.proofs.lemmas.List.Folds.{list_any_at, list_any-append, list_any_more}
 use Rattle.xd_doc.specs.Document.{Document}
 use Rattle.xd_doc.proofs.SortedNames.{or_false}
-use Rattle.xd_doc.proofs.Bools.{and_left, and_right, or_swap, and_false}
+use Rattle.xd_doc.proofs.Bools.{and_left, and_right, or_assoc, and_false}
 use Rattle.xd_doc.proofs.Lists.{all_push, all_last}
 use Rattle.xd_auto.specs.Automaton.{Automaton, accepts}
+use Rattle.xd_auto.specs.declared.auto.State.{State}
+use Rattle.std.specs.List.{list_any}
 use Rattle.xd_boole.specs.declared.groups.MoveSide.{MoveSide}
 use Rattle.xd_boole.specs.declared.choices.SideChoice.{SideChoice}
 use Rattle.xd_boole.specs.Meaning.{any_accepts, has_state, is_state, is_within, with_state}
 use Rattle.xd_empty.specs.Parts.{is_marked}
 use Rattle.xd_boole.specs.Groups.{AllPass, is_side, side_accepts}
 use Rattle.xd_boole.specs.Universal.{MarkUniversal}
-use Rattle.xd_boole.specs.Choices.{AddsChoice, AddsContent, AddsRest, AddsSide, AllChoices, CopiesChoices, IsChoiceOf, IsNoChoice, KeepsChoice, any_choice, choice_refuses}
+use Rattle.xd_boole.specs.Choices.{AddsChoice, AddsContent, AddsRest, AddsSide, AllChoices, CopiesChoices, IsChoiceOf, IsNoChoice, any_choice, choice_refuses, is_refused_alone}
 use Rattle.xd_boole.proofs.Lists.{all_at, all_front, any_walked}
-use Rattle.xd_boole.proofs.Bools.{drop_implied, either_side, implied_by, next_one, other_content, other_rest}
+use Rattle.xd_boole.proofs.Bools.{either_side, implied_by, next_one, other_content, other_rest}
 use Rattle.xd_boole.proofs.AnyAcceptsLemmas.{has_refuses, with_state_accepts, with_state_all, within_refuses}
 
 -- the sets of a choice contain those of another
@@ -36,11 +38,20 @@ module _ (a : Automaton) (c d : Document) where
       (within_refuses a other.contents.items k.contents.items c (and_left (is_within k.contents.items other.contents.items) (is_within k.rests.items other.rests.items) within) (refuses_content k e))
       ∙ ap not (within_refuses a other.rests.items k.rests.items d (and_right (is_within k.contents.items other.contents.items) (is_within k.rests.items other.rests.items) within) (refuses_rest k e))
 
-pub choice_dropped : (k other : SideChoice) (old : List SideChoice) → contains other k ≡ true → KeepsChoice k other old old
-choice_dropped k other old within = record {
-  refused = λ a c d. drop_implied (any_choice a c d old) (choice_refuses a c d other) (choice_refuses a c d k) (contains_implies a c d other k within);
-  states = λ a h e. h;
-}
+refused_first : (o x : Bool) → o ≡ true → (o || x) ≡ true
+refused_first o x e = ap (λ w. w || x) e
+
+refused_later : (o x : Bool) → x ≡ true → (o || x) ≡ true
+refused_later true x e = refl
+refused_later false x e = e
+
+both_true : (o x : Bool) → o ≡ true → x ≡ true → (o && x) ≡ true
+both_true o x e f = ap (λ w. w && x) e ∙ f
+
+drop_first : (o x k : Bool) → (o ≡ true → k ≡ true) → ((o || x) || k) ≡ (x || k)
+drop_first true true k h = refl
+drop_first true false k h = sym (h refl)
+drop_first false x k h = refl
 
 -- another choice refuses all that it does
 pub choice_there : (k other : SideChoice) (choices : List SideChoice) (i : ℕ) → i < length choices → other ≡ get_or choices i other → contains k other ≡ true → AddsChoice k choices choices
@@ -50,37 +61,62 @@ choice_there k other choices i lt at within = record {
   states = λ a h e. h;
 }
 
--- of the choices some were looked at, and others are left
-pub record DropsFirst (k : SideChoice) (initial kept left : List SideChoice) : Type 0 where
-  pub refused : (a : Automaton) (c d : Document) → (any_choice a c d kept || (any_choice a c d left || choice_refuses a c d k)) ≡ (any_choice a c d initial || choice_refuses a c d k)
-  pub left_states : (a : Automaton) → AllChoices a initial → AllChoices a left
-  pub states : (a : Automaton) → AllChoices a initial → AllChoices a kept
+-- without those that refuse no more than a new one
+module _ (k : SideChoice) where
+  abbrev pub others : SideChoice → Bool
+  others o = not (contains o k)
 
-regroup : (r o g k : Bool) → (r || ((o || g) || k)) ≡ (o || ((r || (g || false)) || k))
-regroup true true g k = refl
-regroup true false g k = refl
-regroup false true g k = refl
-regroup false false true k = refl
-regroup false false false k = refl
+  one_more : (a : Automaton) (c d : Document) (o : SideChoice) (os : List SideChoice) (b : Bool) → contains o k ≡ b → (any_choice a c d (filter others os) || choice_refuses a c d k) ≡ (any_choice a c d os || choice_refuses a c d k)
+      → (any_choice a c d (filter others (o ∷ os)) || choice_refuses a c d k) ≡ (any_choice a c d (o ∷ os) || choice_refuses a c d k)
+  one_more a c d o os true e before =
+      ap (λ w. any_choice a c d (if not w then o ∷ filter others os else filter others os) || choice_refuses a c d k) e ∙ before
+      ∙ sym (drop_first (choice_refuses a c d o) (any_choice a c d os) (choice_refuses a c d k) (contains_implies a c d o k e))
+  one_more a c d o os false e before =
+      ap (λ w. any_choice a c d (if not w then o ∷ filter others os else filter others os) || choice_refuses a c d k) e
+      ∙ sym (or_assoc (choice_refuses a c d o) (any_choice a c d (filter others os)) (choice_refuses a c d k))
+      ∙ ap (λ w. choice_refuses a c d o || w) before
+      ∙ or_assoc (choice_refuses a c d o) (any_choice a c d os) (choice_refuses a c d k)
 
-pub drops_more : (k other : SideChoice) (initial kept new left rest : List SideChoice) → KeepsChoice k other kept new → left ≡ rest ++ other ∷ [] → DropsFirst k initial kept left → DropsFirst k initial new rest
-drops_more k other initial kept new left rest keeps is before = record {
-  refused = λ a c d.
-      or_swap (any_choice a c d new) (any_choice a c d rest) (choice_refuses a c d k)
-      ∙ ap (λ w. any_choice a c d rest || w) (keeps.refused a c d)
-      ∙ regroup (any_choice a c d rest) (any_choice a c d kept) (choice_refuses a c d other) (choice_refuses a c d k)
-      ∙ ap (λ w. any_choice a c d kept || (w || choice_refuses a c d k)) (sym (ap (any_choice a c d) is ∙ list_any-append (choice_refuses a c d) rest (other ∷ [])))
-      ∙ before.refused a c d;
-  left_states = λ a h. all_front (IsChoiceOf a) rest other (subst (AllChoices a) is (before.left_states a h));
-  states = λ a h. keeps.states a (before.states a h) (all_last (IsChoiceOf a) rest other (subst (AllChoices a) is (before.left_states a h)));
-}
+  refused_still : (a : Automaton) (c d : Document) (os : List SideChoice) → (any_choice a c d (filter others os) || choice_refuses a c d k) ≡ (any_choice a c d os || choice_refuses a c d k)
+  refused_still a c d [] = refl
+  refused_still a c d (o ∷ os) = one_more a c d o os (contains o k) refl (refused_still a c d os)
 
-pub drops_all : (k : SideChoice) (initial kept left new : List SideChoice) → left ≡ [] → new ≡ kept ++ k ∷ [] → DropsFirst k initial kept left → AddsChoice k initial new
-drops_all k initial kept left new none is before = record {
-  refused = λ a c d.
-      ap (any_choice a c d) is ∙ list_any-append (choice_refuses a c d) kept (k ∷ []) ∙ ap (λ w. any_choice a c d kept || w) (or_false (choice_refuses a c d k))
-      ∙ ap (λ w. any_choice a c d kept || (any_choice a c d w || choice_refuses a c d k)) (sym none) ∙ before.refused a c d;
-  states = λ a h e. subst (AllChoices a) (sym is) (all_push (IsChoiceOf a) kept k (before.states a h) e);
+  states_still : (a : Automaton) (os : List SideChoice) → AllChoices a os → AllChoices a (filter others os)
+  states_still a [] h = tt
+  states_still a (o ∷ os) h = go (others o) (states_still a os h.1)
+    where
+      go : (b : Bool) → AllChoices a (filter others os) → AllChoices a (if b then o ∷ filter others os else filter others os)
+      go true later = (h.0, later)
+      go false later = later
+
+  pub choice_added : (old kept new : List SideChoice) → kept ≡ filter others old → new ≡ kept ++ k ∷ [] → AddsChoice k old new
+  choice_added old kept new some is = record {
+    refused = λ a c d.
+        ap (any_choice a c d) (is ∙ ap (λ (os : List SideChoice). os ++ k ∷ []) some) ∙ list_any-append (choice_refuses a c d) (filter others old) (k ∷ [])
+        ∙ ap (λ w. any_choice a c d (filter others old) || w) (or_false (choice_refuses a c d k)) ∙ refused_still a c d old;
+    states = λ a h e. subst (AllChoices a) (sym (is ∙ ap (λ (os : List SideChoice). os ++ k ∷ []) some)) (all_push (IsChoiceOf a) (filter others old) k (states_still a old h) e);
+  }
+
+any_alone : (a : Automaton) (c d : Document) (s : State) (os : List SideChoice) → accepts a c s ≡ false → list_any (is_refused_alone s) os ≡ true → any_choice a c d os ≡ true
+any_alone a c d s [] e h = absurd (cc)
+any_alone a c d s (o ∷ os) e h = go (is_refused_alone s o) refl h (λ later. any_alone a c d s os e later)
+  where
+    go : (b : Bool) → is_refused_alone s o ≡ b → (b || list_any (is_refused_alone s) os) ≡ true → (list_any (is_refused_alone s) os ≡ true → any_choice a c d os ≡ true) → (choice_refuses a c d o || any_choice a c d os) ≡ true
+    go true is k later = refused_first (choice_refuses a c d o) (any_choice a c d os) (refused is)
+      where
+        refused : is_refused_alone s o ≡ true → choice_refuses a c d o ≡ true
+        refused is =
+            both_true (not (any_accepts a o.contents.items c)) (not (any_accepts a o.rests.items d))
+            (ap not (within_refuses a o.contents.items (s ∷ []) c (and_left (is_within (s ∷ []) o.contents.items) (is_within [] o.rests.items) is) (ap (λ w. w || false) e)))
+            (ap not (within_refuses a o.rests.items [] d (and_right (is_within (s ∷ []) o.contents.items) (is_within [] o.rests.items) is) refl))
+    go false is k later = refused_later (choice_refuses a c d o) (any_choice a c d os) (later k)
+
+-- one of the choices refuses all that a choice does to which the content is added
+pub content_alone : (universal : List Bool) (side : MoveSide) (k : SideChoice) (choices : List SideChoice) → list_any (is_refused_alone side.content) choices ≡ true → AddsContent universal side k choices choices
+content_alone universal side k choices has = record {
+  refused = λ a u c d. implied_by (any_choice a c d choices) (choice_refuses a c d k && not (accepts a c side.content))
+      (λ e. any_alone a c d side.content choices (not-true (accepts a c side.content) (and_right (choice_refuses a c d k) (not (accepts a c side.content)) e)) has);
+  states = λ a h e s. h;
 }
 
 and_absorbed : (k s : Bool) → (k ≡ true → s ≡ false) → k ≡ (k && not s)

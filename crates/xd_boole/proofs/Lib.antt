@@ -1,7 +1,6 @@
 pub mod Lists
 pub mod Bools
 pub mod DividesLemmas
-pub mod FoundAtLemmas
 pub mod ArePointsLemmas
 pub mod MoveBelowLemmas
 pub mod MatchLemmas

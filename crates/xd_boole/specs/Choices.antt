@@ -1,11 +1,12 @@
 -- Choices of sides, by which an element is refused.
-use Rattle.std.specs.Prelude.{◌≡◌, Bool, true, not, ◌&&◌, ◌||◌, List}
+use Rattle.std.specs.Prelude.{◌≡◌, Bool, true, not, ◌&&◌, ◌||◌, List, [], ◌∷◌}
 use Rattle.std.specs.List.{AllByRecursion, list_any}
 use Rattle.xd_doc.specs.Document.{Document}
 use Rattle.xd_auto.specs.Automaton.{Automaton, accepts}
 use Rattle.xd_boole.specs.declared.groups.MoveSide.{MoveSide}
 use Rattle.xd_boole.specs.declared.choices.SideChoice.{SideChoice}
-use Rattle.xd_boole.specs.Meaning.{any_accepts, is_state}
+use Rattle.xd_auto.specs.declared.auto.State.{State}
+use Rattle.xd_boole.specs.Meaning.{any_accepts, is_state, is_within}
 use Rattle.xd_boole.specs.Groups.{AllPass, is_side, side_accepts}
 use Rattle.xd_boole.specs.Universal.{MarkUniversal}
 
@@ -23,10 +24,9 @@ IsChoiceOf a k = AllPass (is_state a) k.contents.items × AllPass (is_state a) k
 abbrev pub AllChoices : Automaton → List SideChoice → Type 0
 AllChoices a choices = AllByRecursion (IsChoiceOf a) choices
 
--- a choice was put after the others, or what it refuses the new one refuses
-pub record KeepsChoice (k other : SideChoice) (old new : List SideChoice) : Type 0 where
-  pub refused : (a : Automaton) (c d : Document) → (any_choice a c d new || choice_refuses a c d k) ≡ ((any_choice a c d old || choice_refuses a c d other) || choice_refuses a c d k)
-  pub states : (a : Automaton) → AllChoices a old → IsChoiceOf a other → AllChoices a new
+-- the choice asks for no more than that the state refuses the content
+abbrev pub is_refused_alone : State → SideChoice → Bool
+is_refused_alone s k = is_within (s ∷ []) k.contents.items && is_within [] k.rests.items
 
 -- the choice stands among the others, or what it refuses another choice refuses
 pub record AddsChoice (k : SideChoice) (old new : List SideChoice) : Type 0 where

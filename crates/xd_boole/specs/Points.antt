@@ -1,9 +1,6 @@
 -- Points and moves by their numbers.
-use Rattle.std.specs.Prelude.{ℕ, ◌<◌, List, [], ◌∷◌, map, Option, slice_index_or}
+use Rattle.std.specs.Prelude.{ℕ, ◌<◌, List, [], ◌∷◌, map, slice_index_or}
 use Rattle.std.specs.List.{AllByRecursion}
-use Rattle.std.specs.Ordering.{nat_cmp}
-use Rattle.std.specs.Cmp.Lexicographic.{slice_cmp}
-use Rattle.std.specs.BTreeMap.{BTreeMap, get}
 use Rattle.xd_auto.specs.declared.auto.State.{State}
 use Rattle.xd_auto.specs.declared.auto.LabelMove.{LabelMove}
 use Rattle.xd_auto.specs.declared.auto.TextMove.{TextMove}
@@ -21,10 +18,6 @@ point_at points i = slice_index_or points i no_point
 
 abbrev pub point_key : PointView → List ℕ
 point_key p = p.left.number ∷ map (λ (s : State). s.number) p.rights
-
--- the number under a key
-abbrev pub found_at : BTreeMap (List ℕ) ℕ → List ℕ → Option ℕ
-found_at found key = get (slice_cmp nat_cmp) found key
 
 -- the states of the point belong to their automata
 pub record IsPointOf (a b : Automaton) (p : PointView) : Type 0 where

@@ -1,8 +1,9 @@
 //! Choices of a side for each matching move, by which an element is refused.
 
 ghost use Rattle.std.specs.Prelude.{◌≡◌, ◌||◌, ◌&&◌, Bool, List, IfOk, OnOk};
+ghost use Rattle.std.specs.List.{list_any};
 ghost use Rattle.xd_boole.specs.Meaning.{has_state, is_within};
-ghost use Rattle.xd_boole.specs.Choices.{AddsChoice, AddsContent, AddsRest, AddsSide, CopiesChoices, ExtendsAll, IsNoChoice, KeepsChoice};
+ghost use Rattle.xd_boole.specs.Choices.{AddsChoice, AddsContent, AddsRest, AddsSide, CopiesChoices, ExtendsAll, IsNoChoice, is_refused_alone};
 
 use crate::groups::MoveSide;
 use crate::states::{has_state, is_within, put_state};
@@ -32,27 +33,9 @@ fn contains(choice: &SideChoice, other: &SideChoice) -> bool
     is_within(&other.contents, &choice.contents) && is_within(&other.rests, &choice.rests)
 }
 
-/// Puts a choice after the others, unless its sets contain those of a new one.
-fn keep_choice(
-    kept: &mut Vec<SideChoice>,
-    other: SideChoice,
-    choice: &SideChoice,
-) -> Result<(), NoMemory>
-    ensures { OnOk result (KeepsChoice choice.now other kept.old.items kept.new.items) }
-{
-    if !contains(&other, choice) {
-        kept.push(other)?;
-    }
-    Ok(())
-}
-
 /// Puts a choice among the others, unless its sets contain those of one of them. Those whose sets
 /// contain its own are dropped: what they refuse it refuses too.
-fn add_choice(
-    alloc: Global,
-    choices: Vec<SideChoice>,
-    choice: SideChoice,
-) -> Result<Vec<SideChoice>, NoMemory>
+fn add_choice(choices: Vec<SideChoice>, choice: SideChoice) -> Result<Vec<SideChoice>, NoMemory>
     ensures { IfOk result (λ made. AddsChoice choice choices.items made.items) }
 {
     for other in &choices {
@@ -61,17 +44,13 @@ fn add_choice(
         }
     }
     let mut choices = choices;
-    let mut kept = Vec::new(alloc);
-    while let Some(other) = choices.pop() {
-        keep_choice(&mut kept, other, &choice)?;
-    }
-    kept.push(choice)?;
-    Ok(kept)
+    choices.retain(|other| !contains(other, &choice));
+    choices.push(choice)?;
+    Ok(choices)
 }
 
 /// Adds a choice, extended by the content of one more matching move.
 fn add_with_content(
-    alloc: Global,
     choices: Vec<SideChoice>,
     choice: SideChoice,
     side: MoveSide,
@@ -81,13 +60,12 @@ fn add_with_content(
     let SideChoice { contents, rests } = choice;
     let mut contents = contents;
     put_state(&mut contents, side.content)?;
-    let choices = add_choice(alloc, choices, SideChoice { contents, rests })?;
+    let choices = add_choice(choices, SideChoice { contents, rests })?;
     Ok(choices)
 }
 
 /// The same by what follows, unless that is known to accept everything.
 fn add_with_rest(
-    alloc: Global,
     choices: Vec<SideChoice>,
     choice: SideChoice,
     side: MoveSide,
@@ -101,8 +79,21 @@ fn add_with_rest(
     let SideChoice { contents, rests } = choice;
     let mut rests = rests;
     put_state(&mut rests, side.rest)?;
-    let choices = add_choice(alloc, choices, SideChoice { contents, rests })?;
+    let choices = add_choice(choices, SideChoice { contents, rests })?;
     Ok(choices)
+}
+
+/// Whether one of the choices asks for no more than that this state refuses the content. What a
+/// choice refuses that the state was added to, it refuses too.
+fn has_content_alone(choices: &[SideChoice], content: State) -> bool
+    ensures { result ≡ list_any (is_refused_alone content) choices.now }
+{
+    for choice in choices {
+        if is_within(&choice.contents, &[content]) && is_within(&choice.rests, &[]) {
+            return true;
+        }
+    }
+    false
 }
 
 /// An equal choice.
@@ -127,20 +118,24 @@ fn add_extended(
     ensures { IfOk result (λ made. AddsSide universal.now side choice choices.items made.items) }
 {
     if refuses(&choice, side) {
-        let choices = add_choice(alloc, choices, choice)?;
+        let choices = add_choice(choices, choice)?;
         return Ok(choices);
     }
     if is_marked(universal, side.content) {
-        let choices = add_with_rest(alloc, choices, choice, side, universal)?;
+        let choices = add_with_rest(choices, choice, side, universal)?;
         return Ok(choices);
     }
     if is_marked(universal, side.rest) {
-        let choices = add_with_content(alloc, choices, choice, side)?;
+        let choices = add_with_content(choices, choice, side)?;
+        return Ok(choices);
+    }
+    if has_content_alone(&choices, side.content) {
+        let choices = add_with_rest(choices, choice, side, universal)?;
         return Ok(choices);
     }
     let copy = copy_choice(alloc, &choice)?;
-    let choices = add_with_content(alloc, choices, copy, side)?;
-    let choices = add_with_rest(alloc, choices, choice, side, universal)?;
+    let choices = add_with_content(choices, copy, side)?;
+    let choices = add_with_rest(choices, choice, side, universal)?;
     Ok(choices)
 }
 

@@ -1,9 +1,10 @@
 //! Classes of labels that are told apart without a new class.
 
-ghost use Rattle.std.specs.Prelude.{◌≡◌, ◌&&◌, not, true, false, List, ℕ};
+ghost use Rattle.std.specs.Prelude.{◌≡◌, ◌&&◌, not, true, false, List, ℕ, IfOk};
 ghost use Rattle.xd_doc.specs.Classes.{class_has, is_named};
+ghost use Rattle.xd_doc.specs.ClassForms.{IsPart};
 
-use xd_doc::{Class, Label, Text, Words};
+use xd_doc::{Class, Label, NoMemory, Text, Words};
 
 /// Whether none of the labels is in the class.
 fn has_none(class: &Class, names: &[Label]) -> bool
@@ -51,6 +52,18 @@ pub(crate) fn has_all_of(one: &Class, two: &Class) -> bool
         return has_each(one, two.names());
     }
     one.takes_others() && has_none(two, one.names())
+}
+
+/// The labels that both classes have, or `None` where there are none. The first class is shared where
+/// it is seen that the second has all of them. Fails only where memory is refused.
+pub fn common_labels(one: &Class, two: &Class) -> Result<Option<Class>, NoMemory>
+    ensures { IfOk result (IsPart true one.now two.now) }
+{
+    if has_all_of(two, one) {
+        let all = one.share()?;
+        return Ok(Some(all));
+    }
+    Ok(one.meet(two)?)
 }
 
 /// Whether none of the texts is in the class.

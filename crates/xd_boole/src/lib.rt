@@ -16,6 +16,7 @@ mod twins;
 mod universal;
 
 pub use choices::SideChoice;
+pub use classes::common_labels;
 pub use disjoint::near_moves;
 pub use groups::{Group, MoveSide, side_of, text_groups_before};
 pub use matching::moves_before;

@@ -10,8 +10,7 @@ ghost use Rattle.xd_boole.specs.Universal.{AcceptsAll, MarkUniversal, TakesAll, 
 
 use crate::step::Step;
 use std::alloc::Global;
-use xd_auto::{Auto, State, trim};
-use xd_auto_pairs::add_universal;
+use xd_auto::{Auto, State, add_universal, trim};
 use xd_doc::{Class, NoMemory, Words};
 
 /// Whether the class has all labels.

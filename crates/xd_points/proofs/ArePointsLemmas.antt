@@ -8,7 +8,8 @@ use Rattle.xd_points.specs.declared.patterns.PatternStates.{PatternStates}
 use Rattle.xd_points.specs.Meaning.{IsPointOf, PointView, point}
 use Rattle.xd_boole.proofs.ArePointsLemmas.{at_end, at_front, place_cases, map_number}
 use Rattle.xd_points.specs.declared.points.Points.{Points}
-use Rattle.xd_points.specs.Points.{ArePoints, Grows, IsStateFor, found_at, no_point, point_at, point_key, state_at, point_last}
+use Rattle.xd_auto.specs.Keys.{found_at}
+use Rattle.xd_points.specs.Points.{ArePoints, Grows, IsStateFor, no_point, point_at, point_key, state_at, point_last}
 
 module _ (a : Automaton) (b : PatternStates) (old new : Points) (left pattern : State) (rights : List State) (last : Bool)
     (made : new.made ≡ old.made ++ no_moves last ∷ []) (points : new.points.items ≡ old.points.items ++ point left pattern rights ∷ [])

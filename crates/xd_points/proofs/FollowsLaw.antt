@@ -7,11 +7,11 @@ use Rattle.std.proofs.lemmas.Bool.{and_from}
 use Rattle.xd_doc.specs.Document.{Document, empty, text, element}
 use Rattle.xd_doc.specs.Classes.{class_has}
 use Rattle.xd_doc.proofs.Bools.{and_left, and_right, or_left, or_right, or_true, not_true}
+use Rattle.xd_doc.specs.Runs.{Run, at_end, at_text, at_element}
 use Rattle.xd_auto.specs.declared.auto.State.{State}
 use Rattle.xd_auto.specs.declared.auto.LabelMove.{LabelMove}
 use Rattle.xd_auto.specs.declared.auto.TextMove.{TextMove}
 use Rattle.xd_auto.specs.Automaton.{Automaton, accepts, moves_at}
-use Rattle.xd_auto.specs.Runs.{Run, ends, takes_text, takes_element}
 use Rattle.xd_boole.proofs.MatchLemmas.{passes_any}
 use Rattle.xd_points.specs.FirstRuns.{IsRunBy, place_before}
 use Rattle.xd_points.specs.declared.patterns.PatternStates.{PatternStates}
@@ -83,12 +83,12 @@ module _ (first : Bool) (a : Automaton) (t : PatternStates) (p : Points) (rows :
   pattern_at : ℕ → State
   pattern_at i = (point_at p.points.items i).pattern
 
-  pub to : (d : Document) (i : ℕ) (run : Run) → i < length p.points.items → Follows first a t p rows d i run → IsRunAt first a t p i d run
+  pub to : (d : Document) (i : ℕ) (run : Run ℕ) → i < length p.points.items → Follows first a t p rows d i run → IsRunAt first a t p i d run
   to empty i run lt h = h
-  to (text c d) i ends lt h = absurd h
-  to (text c d) i (takes_element n k r) lt h = absurd h
-  to (text c d) i (takes_text n r) lt (inl h) = h.1
-  to (text c d) i (takes_text n r) lt (inr h) =
+  to (text c d) i at_end lt h = absurd h
+  to (text c d) i (at_element n k r) lt h = absurd h
+  to (text c d) i (at_text n r) lt (inl h) = h.1
+  to (text c d) i (at_text n r) lt (inr h) =
       let m = h.2 in
       let q : TextFirst = record { characters = c; rest = d } in
       let moves = has i lt h.0 in
@@ -111,10 +111,10 @@ module _ (first : Bool) (a : Automaton) (t : PatternStates) (p : Points) (rows :
         subst (λ (o : Option TextMove). IsSomeAnd o (λ w. (class_has w.words c ≡ true) × (before ≡ false) × IsRunBy first t.auto d w.rest r)) (sym step.there)
             (and_left (class_has step.origin.words c) (accepts t.auto d step.origin.rest) one, or_right right before neither, subst (λ (s : State). IsRunBy first t.auto d s r) step.leads.0.pattern_is after.1),
       )
-  to (element l c d) i ends lt h = absurd h
-  to (element l c d) i (takes_text n r) lt h = absurd h
-  to (element l c d) i (takes_element n k r) lt (inl h) = h.1
-  to (element l c d) i (takes_element n k r) lt (inr h) =
+  to (element l c d) i at_end lt h = absurd h
+  to (element l c d) i (at_text n r) lt h = absurd h
+  to (element l c d) i (at_element n k r) lt (inl h) = h.1
+  to (element l c d) i (at_element n k r) lt (inr h) =
       let m = h.2 in
       let q : ElementFirst = record { label = l; content = c; rest = d } in
       let moves = has i lt h.0 in
@@ -146,13 +146,13 @@ module _ (first : Bool) (a : Automaton) (t : PatternStates) (p : Points) (rows :
   or_none : (r b : Bool) → r ≡ false → b ≡ false → not (r || b) ≡ true
   or_none r b e f = ap (λ w. not (w || b)) e ∙ ap not f
 
-  pub back : (d : Document) (i : ℕ) (run : Run) → i < length p.points.items → IsRunAt first a t p i d run → Follows first a t p rows d i run
+  pub back : (d : Document) (i : ℕ) (run : Run ℕ) → i < length p.points.items → IsRunAt first a t p i d run → Follows first a t p rows d i run
   back empty i run lt h = h
-  back (text c d) i ends lt h = absurd h.1
-  back (text c d) i (takes_element n k r) lt h = absurd h.1
-  back (text c d) i (takes_text n r) lt h = go (is_old t p i) refl (λ j there e. back d j r there e)
+  back (text c d) i at_end lt h = absurd h.1
+  back (text c d) i (at_element n k r) lt h = absurd h.1
+  back (text c d) i (at_text n r) lt h = go (is_old t p i) refl (λ j there e. back d j r there e)
     where
-      go : (o : Bool) → is_old t p i ≡ o → ((j : ℕ) → j < length p.points.items → IsRunAt first a t p j d r → Follows first a t p rows d j r) → Follows first a t p rows (text c d) i (takes_text n r)
+      go : (o : Bool) → is_old t p i ≡ o → ((j : ℕ) → j < length p.points.items → IsRunAt first a t p j d r → Follows first a t p rows d j r) → Follows first a t p rows (text c d) i (at_text n r)
       go true o rest = inl (o, h)
       go false o rest =
           let q : TextFirst = record { characters = c; rest = d } in
@@ -179,12 +179,12 @@ module _ (first : Bool) (a : Automaton) (t : PatternStates) (p : Points) (rows :
             and_left (class_has f.item.words c) (meaning a t p f.item.rest.number d) f.passes,
             rest f.item.rest.number step.leads.0.within (and_right (class_has f.item.words c) (meaning a t p f.item.rest.number d) f.passes, subst (λ (s : State). IsRunBy first t.auto d s r) to_pattern from.holds.2),
           )
-  back (element l c d) i ends lt h = absurd h.1
-  back (element l c d) i (takes_text n r) lt h = absurd h.1
-  back (element l c d) i (takes_element n k r) lt h = go (is_old t p i) refl (λ j there e. back c j k there e) (λ j there e. back d j r there e)
+  back (element l c d) i at_end lt h = absurd h.1
+  back (element l c d) i (at_text n r) lt h = absurd h.1
+  back (element l c d) i (at_element n k r) lt h = go (is_old t p i) refl (λ j there e. back c j k there e) (λ j there e. back d j r there e)
     where
       go : (o : Bool) → is_old t p i ≡ o → ((j : ℕ) → j < length p.points.items → IsRunAt first a t p j c k → Follows first a t p rows c j k)
-          → ((j : ℕ) → j < length p.points.items → IsRunAt first a t p j d r → Follows first a t p rows d j r) → Follows first a t p rows (element l c d) i (takes_element n k r)
+          → ((j : ℕ) → j < length p.points.items → IsRunAt first a t p j d r → Follows first a t p rows d j r) → Follows first a t p rows (element l c d) i (at_element n k r)
       go true o content rest = inl (o, h)
       go false o content rest =
           let q : ElementFirst = record { label = l; content = c; rest = d } in

@@ -1,9 +1,7 @@
 -- How the points of an automaton are made, and what their states and moves stand for.
 use Rattle.std.specs.Prelude.{nat_eq, not, ◌≡◌, ℕ, ◌<◌, ◌≤◌, Bool, true, false, ◌&&◌, ◌||◌, List, [], ◌∷◌, map, take, length, Option, Some, slice_get, slice_index_or}
 use Rattle.std.specs.List.{AllByRecursion, AllZip, list_any}
-use Rattle.std.specs.Ordering.{nat_cmp}
-use Rattle.std.specs.Cmp.Lexicographic.{slice_cmp}
-use Rattle.std.specs.BTreeMap.{BTreeMap, get}
+use Rattle.xd_auto.specs.Keys.{found_at}
 use Rattle.xd_doc.specs.Document.{Document, empty}
 use Rattle.xd_doc.specs.Classes.{LabelClass, class_has}
 use Rattle.xd_auto.specs.declared.auto.State.{State}
@@ -32,10 +30,6 @@ point_at points i = slice_index_or points i no_point
 
 abbrev pub point_key : PointView → List ℕ
 point_key p = p.left.number ∷ p.pattern.number ∷ map (λ (s : State). s.number) p.rights
-
--- the number under a key
-abbrev pub found_at : BTreeMap (List ℕ) ℕ → List ℕ → Option ℕ
-found_at found key = get (slice_cmp nat_cmp) found key
 
 -- the documents that the state of this number is to accept
 abbrev pub meaning : Automaton → PatternStates → Points → ℕ → Document → Bool

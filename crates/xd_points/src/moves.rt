@@ -1,7 +1,7 @@
 //! The moves that stand for one move of a pattern's state.
 
 ghost use Rattle.std.proofs.Common.{◌∙◌, ap, refl};
-ghost use Rattle.std.specs.Prelude.{◌≡◌, ◌<◌, ◌&&◌, ◌||◌, ℕ, Bool, List, [], not, length, get_or, IfOk, OnOk};
+ghost use Rattle.std.specs.Prelude.{◌≡◌, ◌<◌, ◌&&◌, ◌||◌, ℕ, Bool, List, [], true, not, length, get_or, IfOk, OnOk};
 ghost use Rattle.std.specs.List.{AllByRecursion, list_any};
 ghost use Rattle.xd_doc.specs.Document.{Document};
 ghost use Rattle.xd_doc.specs.Classes.{class_has};
@@ -10,9 +10,10 @@ ghost use Rattle.xd_auto.specs.declared.auto.TextMove.{TextMove};
 ghost use Rattle.xd_auto.specs.declared.auto.State.{State};
 ghost use Rattle.xd_auto.specs.Automaton.{Automaton, LeadsBelow, StateMoves, accepts, moves_at};
 ghost use Rattle.xd_boole.specs.Meaning.{ElementFirst, TextFirst, element_of, is_state, move_takes, text_of, text_takes};
-ghost use Rattle.xd_boole.specs.Groups.{AllPass, group_refuses};
+ghost use Rattle.xd_boole.specs.Groups.{AllPass, group_refuses, is_side};
 ghost use Rattle.xd_boole.specs.Choices.{AllChoices, IsChoiceOf, choice_refuses};
-ghost use Rattle.xd_boole.specs.Refusals.{label_refused};
+ghost use Rattle.xd_boole.specs.Disjoint.{AreNearMoves};
+ghost use Rattle.xd_boole.specs.Refusals.{LeadInside, label_refused};
 ghost use Rattle.xd_boole.specs.Points.{MoveBelow, TextBelow};
 ghost use Rattle.xd_points.specs.Meaning.{IsPointOf, ServePoints, point};
 ghost use Rattle.xd_points.specs.Narrowing.{leaves_nothing};
@@ -26,8 +27,8 @@ use crate::points::{Point, Points, leaves_nothing, stand_for};
 use std::alloc::Global;
 use xd_auto::{Auto, LabelMove, Move, State, TextMove};
 use xd_boole::{
-    Group, LabelRefusal, MoveSide, SideChoice, any_marked, label_refusals, moves_before,
-    near_moves, set_of, side_of, text_groups_before,
+    Group, LabelRefusal, MoveSide, SideChoice, any_marked, common_labels, is_marked,
+    label_refusals, moves_before, near_moves, set_of, side_of, text_groups_before,
 };
 use xd_doc::{Class, NoMemory, Words};
 
@@ -134,6 +135,26 @@ fn add_group(
     Ok(())
 }
 
+/// Of these moves those that aren't seen to take nothing of what a part of a pattern does: all of
+/// them, where the part is known to take everything.
+fn near_pattern(
+    alloc: Global,
+    patterns: &PatternStates,
+    part: MoveSide,
+    moves: Vec<LabelMove>,
+) -> Result<Vec<LabelMove>, NoMemory>
+    requires part { is_side patterns.now.auto part ≡ true }
+    requires moves { LeadInside patterns.now.taken.auto moves.items }
+    ensures { IfOk result (λ near. AreNearMoves patterns.now.auto patterns.now.taken.auto part moves.items near.items) }
+{
+    let universal = &patterns.taken.universal;
+    if is_marked(universal, part.content) && is_marked(universal, part.rest) {
+        return Ok(moves);
+    }
+    let near = near_moves(alloc, &patterns.auto, part, &patterns.taken.auto, &moves)?;
+    Ok(near)
+}
+
 /// The moves that must refuse an element which a move and these parts take: those of the point's
 /// rights, and those of the pattern's state that stand before a place. Moves that are seen to take
 /// nothing of what a part accepts are left out.
@@ -153,7 +174,7 @@ fn refusing_moves(
 {
     let taken = &patterns.taken.auto;
     let moves = moves_before(alloc, taken, step, &of.rights, of.pattern, place)?;
-    let moves = near_moves(alloc, &patterns.auto, parts.pattern, taken, &moves)?;
+    let moves = near_pattern(alloc, patterns, parts.pattern, moves)?;
     let moves = near_moves(alloc, auto, parts.left, taken, &moves)?;
     Ok(moves)
 }
@@ -302,7 +323,7 @@ impl PatternMove for LabelMove {
         two: &LabelMove,
         place: usize,
     ) -> Result<(), NoMemory> {
-        let Some(class) = one.class.meet(&two.class)? else {
+        let Some(class) = common_labels(&one.class, &two.class)? else {
             return Ok(());
         };
         let step = LabelMove {

@@ -8,11 +8,12 @@ ghost use Rattle.xd_points.specs.declared.patterns.PatternStates.{PatternStates 
 ghost use Rattle.xd_boole.specs.Meaning.{has_state};
 ghost use Rattle.xd_points.specs.Meaning.{IsPointOf, ServePoints, is_old_point, point};
 ghost use Rattle.xd_points.specs.Narrowing.{leaves_nothing, narrowed_left};
-ghost use Rattle.xd_points.specs.Points.{ArePoints, Grows, IsStateFor, StandsFor, found_at, point_at, point_key, point_last};
+ghost use Rattle.xd_auto.specs.Keys.{found_at};
+ghost use Rattle.xd_points.specs.Points.{ArePoints, Grows, IsStateFor, StandsFor, point_at, point_key, point_last};
 
 use crate::patterns::PatternStates;
+use indexmap::IndexMap;
 use std::alloc::Global;
-use std::collections::BTreeMap;
 use std::marker::Model;
 use xd_auto::{Auto, State, StateKey};
 use xd_boole::{any_last, is_marked};
@@ -40,7 +41,7 @@ impl Model for Point {
 pub(crate) struct Points {
     pub(crate) made: Auto,
     pub(crate) points: Vec<Point>,
-    pub(crate) found: BTreeMap<StateKey, usize>,
+    pub(crate) found: IndexMap<StateKey, usize>,
 }
 
 impl Points {
@@ -52,32 +53,17 @@ impl Points {
         Self {
             made: Auto::new(alloc),
             points: Vec::new(alloc),
-            found: BTreeMap::new(alloc),
+            found: IndexMap::new(alloc),
         }
     }
 }
 
 /// Puts a number under a key.
-fn put(found: &mut BTreeMap<StateKey, usize>, key: StateKey, number: usize) -> Result<(), NoMemory>
+fn put(found: &mut IndexMap<StateKey, usize>, key: StateKey, number: usize) -> Result<(), NoMemory>
     ensures { OnOk result ((q : List ℕ) → found_at found.new q ≡ cond (pointwise nat_eq key q) (Some number) (found_at found.old q)) }
 {
     found.insert(key, number)?;
     Ok(())
-}
-
-/// The key of a point.
-fn key_of(
-    alloc: Global,
-    left: State,
-    pattern: State,
-    rights: &[State],
-) -> Result<StateKey, NoMemory>
-    ensures { IfOk result (λ key. key ≡ point_key (point left pattern rights.now)) }
-{
-    let mut others = Vec::new(alloc);
-    others.push(pattern)?;
-    others.extend_from_slice(rights)?;
-    Ok(StateKey::new(alloc, left, &others)?)
 }
 
 /// Whether a point means what its left accepts: nothing must refuse, and the state of the pattern,
@@ -208,7 +194,7 @@ fn find_or_add(
     ensures grows { OnOk result (Grows points.old points.new) }
     ensures state { IfOk result (IsStateFor points.new left pattern rights.now) }
 {
-    let key = key_of(alloc, left, pattern, rights)?;
+    let key = StateKey::of_pair(alloc, left, pattern, rights)?;
     match points.found.get(&key) {
         Some(number) => Ok(points.made.state(*number)),
         None => add_point(alloc, auto, patterns, points, key, left, pattern, rights),

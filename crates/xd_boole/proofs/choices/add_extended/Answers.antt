@@ -1,5 +1,5 @@
 use Rattle.std.proofs.Common.{◌∙◌, sym}
-use Rattle.xd_boole.proofs.ChoiceLemmas.{content_copied, content_marked, rest_marked, side_refused, side_added}
+use Rattle.xd_boole.proofs.ChoiceLemmas.{content_alone, content_copied, content_marked, rest_marked, side_refused, side_added}
 use Rattle.xd_boole.proofs.choices.add_extended.Goals as goal
 
 pub returns-then-refuses : goal.returns-then-refuses
@@ -19,8 +19,14 @@ returns-then-is_marked-2 c =
     side_added universal c.args.side c.args.choice c.args.choices.items made made (c.in_ok-choices-3.ensures universal)
     (rest_marked universal c.args.side c.args.choice made (sym c.is_marked-2.ensures ∙ c.if-is_marked-2.true))
 
+pub returns-then-has_content_alone : goal.returns-then-has_content_alone
+returns-then-has_content_alone c =
+    let universal = c.args.universal.now in
+    side_added universal c.args.side c.args.choice c.args.choices.items c.args.choices.items c.in_ok-choices-4.choices.items
+    (content_alone universal c.args.side c.args.choice c.args.choices.items (rw c.deref.ensures.value at (sym c.has_content_alone.ensures ∙ c.if-has_content_alone.true))) c.in_ok-choices-4.ensures
+
 pub returns : goal.returns
 returns c =
     let universal = c.args.universal.now in
-    side_added universal c.args.side c.args.choice c.args.choices.items c.in_ok-choices-4.choices.items c.in_ok-choices-5.choices.items
-    (content_copied universal c.args.side c.args.choice c.in_ok-copy.copy c.args.choices.items c.in_ok-choices-4.choices.items c.in_ok-copy.ensures.contents c.in_ok-copy.ensures.rests (c.in_ok-choices-4.ensures universal)) c.in_ok-choices-5.ensures
+    side_added universal c.args.side c.args.choice c.args.choices.items c.in_ok-choices-5.choices.items c.in_ok-choices-6.choices.items
+    (content_copied universal c.args.side c.args.choice c.in_ok-copy.copy c.args.choices.items c.in_ok-choices-5.choices.items c.in_ok-copy.ensures.contents c.in_ok-copy.ensures.rests (c.in_ok-choices-5.ensures universal)) c.in_ok-choices-6.ensures

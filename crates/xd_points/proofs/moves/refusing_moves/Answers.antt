@@ -16,11 +16,10 @@ moves_before-requires-clause-own c =
     let here : IsState b.auto c.of.inside.pattern = subst (λ (p : PointView). IsState b.auto p.pattern) (sym c.of.view_is) c.requires.of.pattern in
     omega (arith, here, c.requires.patterns.count)
 
-pub near_moves-requires-2-clause-moves : goal.near_moves-requires-2-clause-moves
-near_moves-requires-2-clause-moves c =
+pub near_moves-requires-clause-moves : goal.near_moves-requires-clause-moves
+near_moves-requires-clause-moves c =
     let t = c.args.patterns.now.taken.auto in
-    subst (LeadInside t) (sym c.deref-3.ensures.value)
-    (c.in_ok-moves-2.ensures.all (λ m. is_side t (label_side m)) (subst (LeadInside t) (sym c.deref-2.ensures.value) c.in_ok-moves.ensures.inside))
+    subst (LeadInside t) (sym c.deref-2.ensures.value) (c.in_ok-moves-2.ensures.all (λ m. is_side t (label_side m)) c.in_ok-moves.ensures.inside)
 
 pub returns : goal.returns
 returns c =
@@ -37,11 +36,11 @@ returns c =
       taken = λ q has e.
           let by_left = and_left (side_accepts a q.content q.rest left) (side_accepts b.auto q.content q.rest pattern) e in
           let by_pattern = and_right (side_accepts a q.content q.rest left) (side_accepts b.auto q.content q.rest pattern) e in
-          c.in_ok-moves-3.ensures.taken q by_left ∙ ap (list_any (move_takes t q)) c.deref-3.ensures.value
-          ∙ c.in_ok-moves-2.ensures.taken q by_pattern ∙ ap (list_any (move_takes t q)) c.deref-2.ensures.value
+          c.in_ok-moves-3.ensures.taken q by_left ∙ ap (list_any (move_takes t q)) c.deref-2.ensures.value
+          ∙ c.in_ok-moves-2.ensures.taken q by_pattern
           ∙ c.in_ok-moves.ensures.taken q has
           ∙ ap (λ (rs : List State). any_accepts t rs (element_of q) || list_any (move_takes t q) (take c.args.place (moves_at t c.of.inside.pattern).labels)) rights_are
           ∙ ap (λ (s : State). any_accepts t rights (element_of q) || list_any (move_takes t q) (take c.args.place (moves_at t s).labels)) pattern_is
           ∙ ap (λ w. any_accepts t rights (element_of q) || w) (before_same a b c.requires.patterns state c.args.place q);
-      inside = c.in_ok-moves-3.ensures.all (λ m. is_side t (label_side m)) (subst (LeadInside t) (sym c.deref-3.ensures.value) (c.in_ok-moves-2.ensures.all (λ m. is_side t (label_side m)) (subst (LeadInside t) (sym c.deref-2.ensures.value) c.in_ok-moves.ensures.inside)));
+      inside = c.in_ok-moves-3.ensures.all (λ m. is_side t (label_side m)) (subst (LeadInside t) (sym c.deref-2.ensures.value) (c.in_ok-moves-2.ensures.all (λ m. is_side t (label_side m)) c.in_ok-moves.ensures.inside));
     }

@@ -1,6 +1,7 @@
 use Rattle.std.proofs.Common.{◌≡◌, Some, ◌∙◌, sym, ap, arith}
 use Rattle.xd_points.specs.Meaning.{point}
-use Rattle.xd_points.specs.Points.{found_at, point_key}
+use Rattle.xd_auto.specs.Keys.{found_at}
+use Rattle.xd_points.specs.Points.{point_key}
 use Rattle.xd_points.proofs.ArePointsLemmas.{found_state}
 use Rattle.xd_points.proofs.points.find_or_add.Goals as goal
 

@@ -1,6 +1,7 @@
 use Rattle.std.proofs.Common.{◌≡◌, Some, ◌∙◌, sym, ap, arith}
 use Rattle.xd_boole.specs.Meaning.{less}
-use Rattle.xd_boole.specs.Points.{found_at, point_key}
+use Rattle.xd_auto.specs.Keys.{found_at}
+use Rattle.xd_boole.specs.Points.{point_key}
 use Rattle.xd_apart.proofs.StepLemmas.{found_stands}
 use Rattle.xd_apart.proofs.loose.Loose.find_or_add.Goals as goal
 

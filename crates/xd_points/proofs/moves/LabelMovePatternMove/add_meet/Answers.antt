@@ -55,7 +55,7 @@ returns c =
     let moves : List LabelMove = c.in_ok-moves.moves.items in
     let refused : ElementFirst → Bool = λ q. taken_before (move_takes b.auto q) (moves_at b.auto c.args.of.now.pattern).labels b c.args.of.now c.args.place (element_of q) in
     let refusing = subst (λ (k : Parts). AreRefusing a b c.args.of.now class k c.args.place moves) same c.in_ok-moves.ensures in
-    let part : IsPart true c.args.one.now.class c.args.two.now.class (Some class) = subst (λ (o : Option LabelClass). IsPart true c.args.one.now.class c.args.two.now.class o) c.in-Some.is c.in_ok-class.ensures.part in
+    let part : IsPart true c.args.one.now.class c.args.two.now.class (Some class) = subst (λ (o : Option LabelClass). IsPart true c.args.one.now.class c.args.two.now.class o) c.in-Some.is c.in_ok-class.ensures in
     adds_like c.loop-group.invariant.adds
     (λ q.
     ap (λ w. parts_accept a b q.content q.rest parts && w)
