@@ -1,12 +1,13 @@
 -- The steps that add goals and dependents, in the form in which the code makes them.
-use Rattle.std.proofs.Common.{ℕ, ◌<◌, ◌≡◌, cond, nat_eq, List, [], ◌∷◌, ◌++◌, length, get_or, set, Option, Some, None, Result, Ok, Err, IfOk, OnOk, OnErr, sym, ap, ◌∙◌, subst, arith, length-append}
+use Rattle.std.proofs.Common.{BuildHasherDefault, FoldHasher, ℕ, ◌<◌, ◌≡◌, cond, nat_eq, List, [], ◌∷◌, ◌++◌, length, get_or, set, Option, Some, None, Result, Ok, Err, IfOk, OnOk, OnErr, sym, ap, ◌∙◌, subst, arith, length-append}
 use Rattle.std.specs.Cmp.Lexicographic.{pointwise}
-use Rattle.std.specs.BTreeMap.{BTreeMap}
+use Rattle.std.specs.HashMap.{HashMap}
 use Rattle.std.proofs.lemmas.List.{get_or_default}
 use Rattle.xd_auto.specs.declared.auto.State.{State}
 use Rattle.xd_state_heads.specs.Moves.{AreBelow, claim_with}
 use Rattle.xd_goals.specs.Rows.{GoalRow, new_row, no_row, row_at, claim_at, claim_of, claim_key, IsListed, RowsBelow}
-use Rattle.xd_goals.specs.Kept.{AreLinked, AreThese, GrowsBy, IsIndexed, found_at}
+use Rattle.xd_auto.specs.Keys.{found_at}
+use Rattle.xd_goals.specs.Kept.{AreLinked, AreThese, GrowsBy, IsIndexed}
 use Rattle.xd_goals.specs.declared.table.ChoiceNode.{ChoiceNode}
 use Rattle.xd_goals.specs.declared.table.GoalId.{GoalId}
 use Rattle.xd_goals.specs.declared.table.GoalCase.{GoalCase}
@@ -21,7 +22,7 @@ pub record IsLinkedNow (A : List State → Type 0) (rows : List GoalRow) (nodes 
   pub grows : GrowsBy A (record { rows = rows; nodes = nodes; links = links }) (record { rows = rows2; nodes = nodes; links = links2 })
   pub listed : IsListed (record { rows = rows2; nodes = nodes; links = links2 }) on owner
   pub states : (n : ℕ) → RowsBelow n rows → RowsBelow n rows2
-  pub index : (found : BTreeMap (List ℕ) ℕ) → IsIndexed found rows → IsIndexed found rows2
+  pub index : (found : HashMap (List ℕ) ℕ (BuildHasherDefault FoldHasher)) → IsIndexed found rows → IsIndexed found rows2
   pub linked : owner.goal.number < length rows → AreLinked rows links → AreLinked rows2 links2
 
 pub linked_now : {A : List State → Type 0} (rows : List GoalRow) (nodes : List ChoiceNode) (links : List Link) (on : ℕ) (owner : GoalCase) → on < length rows
@@ -41,7 +42,7 @@ linked_now {A} rows nodes links on owner lt rows2 links2 n next count is e f =
     }))
 
 -- a goal was added, or nothing
-module _ {E : Type 0} (r : Result GoalId E) (rows rows2 : List GoalRow) (found found2 : BTreeMap (List ℕ) ℕ) (nodes : List ChoiceNode) (links : List Link) (left : State) (rights : List State)
+module _ {E : Type 0} (r : Result GoalId E) (rows rows2 : List GoalRow) {S : Type 0} (found found2 : HashMap (List ℕ) ℕ S) (nodes : List ChoiceNode) (links : List Link) (left : State) (rights : List State)
     (ok : OnOk r (rows2 ≡ rows ++ new_row left rights ∷ [])) (err : OnErr r (rows2 ≡ rows)) where
   pub added_grows : GrowsBy (AreThese rights) (record { rows = rows; nodes = nodes; links = links }) (record { rows = rows2; nodes = nodes; links = links })
   added_grows = go r ok err

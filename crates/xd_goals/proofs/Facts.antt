@@ -1,7 +1,7 @@
 -- The facts of a table, while it grows and while goals come to hold, to be refuted and to wait.
 use Rattle.std.proofs.Common.{ℕ, ◌<◌, ◌≡◌, Bool, true, false, List, [], ◌∷◌, length, Some, ⊎_elim, sym, ap, subst, ◌∙◌, arith}
 use Rattle.std.specs.List.{AllByRecursion, slice_get}
-use Rattle.std.specs.BTreeMap.{BTreeMap}
+use Rattle.std.specs.HashMap.{HashMap}
 use Rattle.std.proofs.lemmas.Bool.{cases_lt}
 use Rattle.xd_doc.specs.Document.{Document}
 use Rattle.xd_doc.specs.StoreNodes.{Keeps}
@@ -13,7 +13,8 @@ use Rattle.xd_rules.specs.Meaning.{is_text_atom, Separates, AllLeaves}
 use Rattle.xd_rules.specs.Rules.{Claim, ChoiceTree}
 use Rattle.xd_state_heads.specs.Moves.{Accepts, claim_with}
 use Rattle.xd_goals.specs.Rows.{GoalRow, TableView, row_at, claim_of, claim_key, goal_case, no_view, IsRefuted, IsUnbroken, RowsBelow}
-use Rattle.xd_goals.specs.Kept.{GrowsBy, IsIndexed, found_at}
+use Rattle.xd_auto.specs.Keys.{found_at}
+use Rattle.xd_goals.specs.Kept.{GrowsBy, IsIndexed}
 use Rattle.xd_goals.specs.Trees.{IsTreeBySort}
 use Rattle.xd_goals.specs.Standing.{AreSeparated, IsBegun, IsCaseTree, IsOpen, IsSeparatedBy, KeepsGoals, StandsOn, task_for, claim_sides}
 use Rattle.xd_goals.specs.Facts.{ChoiceStands, RowHolds, FactsOn, FactsOnAutomaton, LeadsToSettled, StaySettled}
@@ -60,7 +61,7 @@ pub choices_stand : (a : Automaton) (t : TableView) → FactsOnAutomaton a t →
 choices_stand a t h i = all_places (StandsSomewhere a t (claim_of (row_at t.rows i))) (row_at t.rows i).choices (λ place k e. (goal_case i place, h.choices i place k e))
 
 -- no two goals are alike, since the map tells them apart
-pub unlike_index : (found : BTreeMap (List ℕ) ℕ) (rows : List GoalRow) → IsIndexed found rows → (i j : ℕ) → i < length rows → j < length rows → claim_of (row_at rows i) ≡ claim_of (row_at rows j) → i ≡ j
+pub unlike_index : {S : Type 0} (found : HashMap (List ℕ) ℕ S) (rows : List GoalRow) → IsIndexed found rows → (i j : ℕ) → i < length rows → j < length rows → claim_of (row_at rows i) ≡ claim_of (row_at rows j) → i ≡ j
 unlike_index found rows h i j li lj e =
     let x = h.all i li in
     let y = h.all j lj in

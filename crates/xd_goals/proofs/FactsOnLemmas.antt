@@ -1,7 +1,7 @@
 -- What a step of work does to a table.
 use Rattle.std.proofs.Common.{ℕ, ◌+◌, ◌<◌, ◌≤◌, ◌≡◌, Bool, true, false, List, [], ◌∷◌, ◌++◌, length, set, length-set, Option, Some, get_or-set_other, ⊎_elim, sym, refl, ap, subst, ◌∙◌, arith}
 use Rattle.std.specs.List.{AllByRecursion, list_any, slice_get}
-use Rattle.std.specs.BTreeMap.{BTreeMap}
+use Rattle.std.specs.HashMap.{HashMap}
 use Rattle.std.proofs.lemmas.Bool.{cases_eq}
 use Rattle.xd_doc.specs.Document.{Document}
 use Rattle.xd_doc.specs.StoredSeq.{IsBelow}
@@ -12,7 +12,8 @@ use Rattle.xd_auto.specs.Automaton.{Automaton}
 use Rattle.xd_rules.specs.Rules.{Claim}
 use Rattle.xd_state_heads.specs.Moves.{IsInOrder, claim_with, is_last_in}
 use Rattle.xd_goals.specs.Rows.{GoalRow, TableView, no_row, claim_at, claim_of, claim_key, goal_case, row_at, IsRefuted}
-use Rattle.xd_goals.specs.Kept.{AreLinked, AreNodes, Grows, GrowsBy, IsConsistent, IsIndexed, IsMarking, IsWhole, Refutes, found_at, view_of, with_mark}
+use Rattle.xd_auto.specs.Keys.{found_at}
+use Rattle.xd_goals.specs.Kept.{AreLinked, AreNodes, Grows, GrowsBy, IsConsistent, IsIndexed, IsMarking, IsWhole, Refutes, view_of, with_mark}
 use Rattle.xd_goals.specs.Standing.{IsBegun, IsOpen, IsSeparatedBy, KeepsGoals}
 use Rattle.xd_goals.specs.Facts.{ChoiceStands, RowHolds, FactsOn, FactsOnAutomaton, StaySettled}
 use Rattle.xd_goals.specs.Cases.{AreSettled}
@@ -53,7 +54,7 @@ step_grown a es s t u g h = record {
 }
 
 -- goals that are the same have the same index, the same lists and the same nodes
-pub whole_same : (old new : List GoalRow) (nodes : List ChoiceNode) (links : List Link) (found : BTreeMap (List ℕ) ℕ) → SameGoals old new → IsIndexed found old → AreLinked old links → AreNodes old nodes
+pub whole_same : (old new : List GoalRow) (nodes : List ChoiceNode) (links : List Link) {S : Type 0} (found : HashMap (List ℕ) ℕ S) → SameGoals old new → IsIndexed found old → AreLinked old links → AreNodes old nodes
     → IsIndexed found new × AreLinked new links × AreNodes new nodes
 whole_same old new nodes links found same index linked stand = (
   record {
@@ -253,7 +254,7 @@ module _ (g h : Goals) (m : IsMarking g h) where
   marking_whole w =
       let k = whole_same g.rows.items h.rows.items g.nodes.items g.links.items g.found marking_same w.index w.links w.nodes in
       record {
-        index = subst (λ (f : BTreeMap (List ℕ) ℕ). IsIndexed f h.rows.items) (sym m.found) k.0;
+        index = subst (λ f. IsIndexed f h.rows.items) (sym m.found) k.0;
         links = subst (AreLinked h.rows.items) (sym m.links) k.1;
         nodes = subst (AreNodes h.rows.items) (sym m.nodes) k.2;
       }

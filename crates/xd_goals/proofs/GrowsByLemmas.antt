@@ -3,7 +3,7 @@ use Rattle.std.proofs.Common.{ℕ, ◌+◌, ◌<◌, ◌≤◌, ◌≡◌, ◌�
 use Rattle.std.specs.List.{slice_get}
 use Rattle.std.specs.Option.{option_map}
 use Rattle.std.specs.Cmp.Lexicographic.{pointwise}
-use Rattle.std.specs.BTreeMap.{BTreeMap}
+use Rattle.std.specs.HashMap.{HashMap}
 use Rattle.std.proofs.lemmas.List.{get_or_past, get_or_append_left}
 use Rattle.std.proofs.lemmas.Option.{slice_get-get_or, slice_get_past}
 use Rattle.std.proofs.lemmas.Bool.{cases_eq, cases_lt}
@@ -16,7 +16,8 @@ use Rattle.xd_auto.proofs.Closed.{same_state}
 use Rattle.xd_rules.specs.Rules.{Claim}
 use Rattle.xd_state_heads.specs.Moves.{AreBelow, claim_with}
 use Rattle.xd_goals.specs.Rows.{GoalRow, TableView, new_row, no_row, row_at, claim_of, claim_at, claim_key, state_numbers, IsListed, Leads, here, behind, IsRowBelow, RowsBelow}
-use Rattle.xd_goals.specs.Kept.{AreLinked, AreThese, BeginsWith, GrowsBy, IsIndexed, IsNew, IsSameButMarks, IsSameGoal, found_at}
+use Rattle.xd_auto.specs.Keys.{found_at}
+use Rattle.xd_goals.specs.Kept.{AreLinked, AreThese, BeginsWith, GrowsBy, IsIndexed, IsNew, IsSameButMarks, IsSameGoal}
 use Rattle.xd_goals.specs.declared.table.ChoiceNode.{ChoiceNode}
 use Rattle.xd_goals.specs.declared.table.GoalCase.{GoalCase}
 use Rattle.xd_goals.specs.declared.table.Link.{Link}
@@ -159,7 +160,7 @@ module _ (rows : List GoalRow) (nodes : List ChoiceNode) (links : List Link) whe
       more = record { first = first_at; next = h.next; goals = λ k l at. omega (arith, length_more (new_row left rights), h.goals k l at) }
 
   -- the map with the new goal's number under its key
-  pub IsIndexed-row : (rows2 : List GoalRow) (found found2 : BTreeMap (List ℕ) ℕ) (left : State) (rights : List State) → rows2 ≡ with_row left rights
+  pub IsIndexed-row : (rows2 : List GoalRow) {S : Type 0} (found found2 : HashMap (List ℕ) ℕ S) (left : State) (rights : List State) → rows2 ≡ with_row left rights
       → ((q : List ℕ) → found_at found2 q ≡ cond (pointwise nat_eq (claim_key (claim_with left rights)) q) (Some (length rows)) (found_at found q))
       → found_at found (claim_key (claim_with left rights)) ≡ None → IsIndexed found rows → IsIndexed found2 rows2
   IsIndexed-row rows2 found found2 left rights e updated absent h = subst (IsIndexed found2) (sym e) more
@@ -259,7 +260,7 @@ module _ (rows : List GoalRow) (nodes : List ChoiceNode) (links : List Link) whe
           (λ m. let old = h.each on m in record { left = old.left; rights = old.rights }) (λ k ne m. h.each k m) i (omega (arith, length-set rows on linked_row));
     }
 
-    pub IsIndexed-link : (found : BTreeMap (List ℕ) ℕ) → IsIndexed found rows → IsIndexed found linked_rows
+    pub IsIndexed-link : {S : Type 0} (found : HashMap (List ℕ) ℕ S) → IsIndexed found rows → IsIndexed found linked_rows
     IsIndexed-link found h = record {
       all = λ i l. by_row (λ k r. k < length rows → found_at found (claim_key (claim_of r)) ≡ Some k) (λ m. h.all on m) (λ k ne m. h.all k m) i (omega (arith, length-set rows on linked_row));
       only = λ q i f. let old = h.only q i f in
@@ -310,7 +311,7 @@ same_claim c d e =
     ap (λ (s : State). claim_with s c.rights) h ∙ ap (λ (ss : List State). claim_with d.left ss) t
 
 -- the goal that the map finds has the claim of its key
-pub found_claim : (found : BTreeMap (List ℕ) ℕ) (rows : List GoalRow) (c : Claim State) (i : ℕ) → IsIndexed found rows → found_at found (claim_key c) ≡ Some i → claim_at rows i ≡ Some c
+pub found_claim : {S : Type 0} (found : HashMap (List ℕ) ℕ S) (rows : List GoalRow) (c : Claim State) (i : ℕ) → IsIndexed found rows → found_at found (claim_key c) ≡ Some i → claim_at rows i ≡ Some c
 found_claim found rows c i h f =
     let o = h.only (claim_key c) i f in
     ap (option_map claim_of) (slice_get-get_or rows i no_row o.0) ∙ ap Some (same_claim (claim_of (row_at rows i)) c o.1)
@@ -338,7 +339,7 @@ claim_at-grows s t h g c e =
     ∙ ap Some (ap (λ (l : State). claim_with l (row_at t.rows g).rights) k.left ∙ ap (λ (r : List State). claim_with (row_at s.rows g).left r) k.rights ∙ w.1)
 
 -- with no goal and no link
-pub consistent_rows : (found : BTreeMap (List ℕ) ℕ) (rows : List GoalRow) → rows ≡ [] → ((q : List ℕ) → found_at found q ≡ None) → IsIndexed found rows
+pub consistent_rows : {S : Type 0} (found : HashMap (List ℕ) ℕ S) (rows : List GoalRow) → rows ≡ [] → ((q : List ℕ) → found_at found q ≡ None) → IsIndexed found rows
 consistent_rows found rows e none = record {
   all = λ i lt. let n = ap length e in absurd (omega arith);
   only = λ q i f. let no = none q in absurd (cc);

@@ -1,5 +1,5 @@
 -- Right heads that are on neither side of a path, and which of them a tree splits on.
-use Rattle.std.proofs.Common.{ℕ, zero, suc, ◌+◌, ◌<◌, ◌≤◌, ◌≡◌, ◌⊎◌, Bool, true, false, cond, nat_eq, ◌||◌, List, [], ◌∷◌, take, get_or, MatchOption, Option, None, Some, ⊎_elim, refl, sym, subst, ◌∙◌, arith}
+use Rattle.std.proofs.Common.{ℕ, zero, suc, ◌+◌, ◌<◌, ◌≤◌, ◌≡◌, Bool, true, false, cond, nat_eq, ◌||◌, List, [], ◌∷◌, take, get_or, MatchOption, Option, None, Some, ⊎_elim, refl, sym, subst, ◌∙◌, arith}
 use Rattle.std.specs.List.{slice_get, AllByRecursion, list_any}
 use Rattle.std.specs.Option.{option_or}
 use Rattle.std.proofs.lemmas.Bool.Decides.{Decides-eqb}

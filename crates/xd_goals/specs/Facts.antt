@@ -5,21 +5,21 @@ use Rattle.xd_doc.specs.Document.{Document}
 use Rattle.xd_auto.specs.declared.auto.State.{State}
 use Rattle.xd_auto.specs.Automaton.{Automaton}
 use Rattle.xd_rules.specs.Heads.{Head, matches}
-use Rattle.xd_rules.specs.Meaning.{AllLeaves}
-use Rattle.xd_rules.specs.Rules.{ChoiceTree, Claim, numbered}
+use Rattle.xd_rules.specs.Rules.{Claim, numbered}
 use Rattle.xd_state_heads.specs.Moves.{heads_of}
 use Rattle.xd_goals.specs.Rows.{GoalRow, TableView, row_at, claim_of, goal_case, IsUnbroken, RowsBelow}
-use Rattle.xd_goals.specs.Trees.{HasTree, StandsAt}
+use Rattle.xd_goals.specs.Trees.{HasTree}
 use Rattle.xd_goals.specs.Kept.{IsWhole, view_of}
 use Rattle.xd_goals.specs.declared.goals.Goals.{Goals}
 use Rattle.xd_goals.specs.Standing.{AreSeparated, IsBegun, IsCaseTree, IsOpen}
+use Rattle.xd_goals.specs.Reached.{LeadsTo}
 use Rattle.xd_goals.specs.declared.table.Choice.{Choice}
 use Rattle.xd_goals.specs.declared.table.GoalCase.{GoalCase}
 use Rattle.xd_goals.specs.declared.table.Standing.TheVariants.{Holds}
 
 -- each goal that a leaf of the choice names is marked as settled
 abbrev pub LeadsToSettled : TableView → Choice → Type 0
-LeadsToSettled t k = (tree : ChoiceTree) → StandsAt t.nodes k.root tree → AllLeaves (λ g. (row_at t.rows g).settled ≡ true) tree
+LeadsToSettled t = LeadsTo (λ g. (row_at t.rows g).settled ≡ true) t.nodes
 
 -- it holds, and leads to goals alone that are marked as settled
 pub record IsSettledRow (t : TableView) (row : GoalRow) : Type 0 where

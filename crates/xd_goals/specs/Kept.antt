@@ -1,10 +1,9 @@
 -- What a table keeps about itself, and how it grows.
 use Rattle.std.specs.Prelude.{◌≡◌, ℕ, ◌<◌, ◌≤◌, ◌⊎◌, Bool, true, false, List, [], length, Option, Some, slice_get, slice_set}
-use Rattle.std.specs.Ordering.{nat_cmp}
-use Rattle.std.specs.Cmp.Lexicographic.{slice_cmp}
-use Rattle.std.specs.BTreeMap.{BTreeMap, get}
+use Rattle.std.specs.HashMap.{HashMap}
 use Rattle.xd_doc.specs.StoredSeq.{IsBelow}
 use Rattle.xd_auto.specs.declared.auto.State.{State}
+use Rattle.xd_auto.specs.Keys.{found_at}
 use Rattle.xd_state_heads.specs.Moves.{IsInOrder}
 use Rattle.xd_goals.specs.Rows.{GoalRow, TableView, row_at, claim_of, claim_key, IsListed, IsUnbroken, Leads, NodeStands, RowsBelow}
 use Rattle.xd_goals.specs.declared.table.Choice.{Choice}
@@ -19,12 +18,8 @@ use Rattle.xd_goals.specs.declared.goals.Goals.{Goals}
 abbrev pub view_of : Goals → TableView
 view_of g = record { rows = g.rows.items; nodes = g.nodes.items; links = g.links.items }
 
--- the number under a key
-abbrev pub found_at : BTreeMap (List ℕ) ℕ → List ℕ → Option ℕ
-found_at found key = get (slice_cmp nat_cmp) found key
-
 -- the map has each goal's number under its key, and nothing else
-pub record IsIndexed (found : BTreeMap (List ℕ) ℕ) (rows : List GoalRow) : Type 0 where
+pub record IsIndexed {S : Type 0} (found : HashMap (List ℕ) ℕ S) (rows : List GoalRow) : Type 0 where
   pub all : (i : ℕ) → i < length rows → found_at found (claim_key (claim_of (row_at rows i))) ≡ Some i
   pub only : (key : List ℕ) (i : ℕ) → found_at found key ≡ Some i → (i < length rows) × (claim_key (claim_of (row_at rows i)) ≡ key)
 

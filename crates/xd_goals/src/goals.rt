@@ -6,11 +6,12 @@ ghost use Rattle.xd_auto.specs.Automaton.{state_number};
 ghost use Rattle.xd_doc.specs.StoredSeq.{IsBelow};
 ghost use Rattle.xd_state_heads.specs.Moves.{AreBelow, claim_with};
 ghost use Rattle.xd_goals.specs.Rows.{IsListed, IsRefuted, NodeStands, claim_at, claim_key, new_row, row_at, Leads};
-ghost use Rattle.xd_goals.specs.Kept.{AreLinked, AreThese, BeginsWith, Grows, GrowsBy, IsConsistent, IsWoken, Refutes, found_at, view_of, with_choice, with_flag, with_mark, with_standing};
+ghost use Rattle.xd_auto.specs.Keys.{found_at};
+ghost use Rattle.xd_goals.specs.Kept.{AreLinked, AreThese, BeginsWith, Grows, GrowsBy, IsConsistent, IsWoken, Refutes, view_of, with_choice, with_flag, with_mark, with_standing};
 
 use crate::table::{Choice, ChoiceNode, GoalCase, GoalId, Link, Row, Standing};
+use indexmap::IndexMap;
 use std::alloc::Global;
-use std::collections::BTreeMap;
 use xd_auto::{State, StateKey};
 use xd_doc::{NoMemory, Seq};
 
@@ -23,7 +24,7 @@ pub(crate) struct Goals {
     pub(crate) rows: Vec<Row>,
     pub(crate) nodes: Vec<ChoiceNode>,
     pub(crate) links: Vec<Link>,
-    pub(crate) found: BTreeMap<StateKey, usize>,
+    pub(crate) found: IndexMap<StateKey, usize>,
 }
 
 impl Goals {
@@ -38,7 +39,7 @@ impl Goals {
             rows: Vec::new(alloc),
             nodes: Vec::new(alloc),
             links: Vec::new(alloc),
-            found: BTreeMap::new(alloc),
+            found: IndexMap::new(alloc),
         }
     }
 
@@ -61,7 +62,7 @@ impl Goals {
 }
 
 /// Puts a number under a key.
-fn put(found: &mut BTreeMap<StateKey, usize>, key: StateKey, number: usize) -> Result<(), NoMemory>
+fn put(found: &mut IndexMap<StateKey, usize>, key: StateKey, number: usize) -> Result<(), NoMemory>
     ensures ok { OnOk result ((q : List ℕ) → found_at found.new q ≡ cond (pointwise nat_eq key q) (Some number) (found_at found.old q)) }
     ensures err { OnErr result ((q : List ℕ) → found_at found.new q ≡ found_at found.old q) }
 {
@@ -73,7 +74,7 @@ fn put(found: &mut BTreeMap<StateKey, usize>, key: StateKey, number: usize) -> R
 fn add_row(
     alloc: Global,
     rows: &mut Vec<Row>,
-    found: &mut BTreeMap<StateKey, usize>,
+    found: &mut IndexMap<StateKey, usize>,
     key: StateKey,
     left: State,
     rights: &[State],

@@ -1,14 +1,11 @@
 //! Which goals a goal rests on.
 
-ghost use Rattle.std.specs.Prelude.{◌≡◌, ◌⊎◌, ℕ, ◌<◌, [], true, false, length, IfOk, OnOk};
+ghost use Rattle.std.specs.Prelude.{◌≡◌, ℕ, ◌<◌, [], false, length, IfOk, OnOk};
 ghost use Rattle.std.specs.List.{AllByRecursion};
-ghost use Rattle.xd_rules.specs.Rules.{ChoiceTree};
-ghost use Rattle.xd_rules.specs.Meaning.{AllLeaves};
-ghost use Rattle.xd_rules.specs.Listed.{SomeOf};
 ghost use Rattle.xd_goals.specs.Rows.{IsRefuted, row_at};
 ghost use Rattle.xd_goals.specs.Kept.{IsMarking, view_of};
 ghost use Rattle.xd_goals.specs.Trees.{StandsAt};
-ghost use Rattle.xd_goals.specs.Reached.{HasTreeWithin, HaveTreesWithin, IsLeafAt, IsSettled, IsWaitingIn, IsWalk, LeadsToMarked, MarksThese, ReachesMore, is_marked};
+ghost use Rattle.xd_goals.specs.Reached.{HasTreeAt, HaveTreesWithin, IsLeafAt, IsLeafOf, IsSettled, IsWaitingIn, IsWalk, MarksThese, Reaches, is_marked};
 ghost use Rattle.xd_goals.specs.Standing.{IsOpen};
 ghost use Rattle.xd_goals.specs.Facts.{StaySettled};
 ghost use Rattle.xd_goals.specs.declared.table.Standing.TheVariants.{Holds};
@@ -16,60 +13,48 @@ ghost use Rattle.xd_goals.specs.declared.table.Standing.TheVariants.{Holds};
 use crate::goals::{Goals, set_settled};
 use crate::grow::node_at;
 use crate::table::{Choice, ChoiceNode, GoalId, Row, Standing};
+use indexmap::IndexSet;
 use std::alloc::Global;
 use xd_doc::NoMemory;
 
-/// Goals that were reached, in the order in which they were, and a mark for each goal.
-#[derive(Drop)]
-struct Reached {
-    marks: Vec<bool>,
-    order: Vec<usize>,
-}
-
 /// Reaches a goal.
-fn mark(found: &mut Reached, goal: GoalId) -> Result<(), NoMemory>
-    requires { goal.number < length found.old.marks.items }
-    ensures more { ReachesMore found.old.marks.items found.old.order.items found.new.marks.items found.new.order.items }
-    ensures ok { OnOk result (is_marked found.new.marks.items goal.number ≡ true) }
-    ensures only { (g : ℕ) → is_marked found.new.marks.items g ≡ true → (is_marked found.old.marks.items g ≡ true) ⊎ (goal.number ≡ g) }
+fn reach(found: &mut IndexSet<usize>, goal: GoalId) -> Result<(), NoMemory>
+    ensures { OnOk result (Reaches (λ g. goal.number ≡ g) found.old.keys found.new.keys) }
 {
-    if !found.marks[goal.number] {
-        found.order.push(goal.number)?;
-        found.marks[goal.number] = true;
-    }
+    found.insert_full(goal.number)?;
     Ok(())
 }
 
 /// Reaches the goals that the leaves of a tree name.
-fn mark_leaves(nodes: &[ChoiceNode], found: &mut Reached, root: usize) -> Result<(), NoMemory>
-    requires { HasTreeWithin nodes.now (length found.old.marks.items) root }
-    ensures more { ReachesMore found.old.marks.items found.old.order.items found.new.marks.items found.new.order.items }
-    ensures ok { OnOk result ((tree : ChoiceTree) → StandsAt nodes.now root tree → AllLeaves (λ g. is_marked found.new.marks.items g ≡ true) tree) }
-    ensures only { (g : ℕ) → is_marked found.new.marks.items g ≡ true → (is_marked found.old.marks.items g ≡ true) ⊎ IsLeafAt nodes.now root g }
+fn reach_leaves(
+    nodes: &[ChoiceNode],
+    found: &mut IndexSet<usize>,
+    root: usize,
+) -> Result<(), NoMemory>
+    requires { HasTreeAt nodes.now root }
+    ensures { OnOk result (Reaches (IsLeafAt nodes.now root) found.old.keys found.new.keys) }
 {
     match node_at(nodes, root) {
-        ChoiceNode::Content(goal) => mark(found, goal),
-        ChoiceNode::Rest(goal) => mark(found, goal),
+        ChoiceNode::Content(goal) => reach(found, goal),
+        ChoiceNode::Rest(goal) => reach(found, goal),
         ChoiceNode::Split { content, rest, .. } => {
-            mark_leaves(nodes, found, content)?;
-            mark_leaves(nodes, found, rest)
+            reach_leaves(nodes, found, content)?;
+            reach_leaves(nodes, found, rest)
         }
     }
 }
 
 /// Reaches the goals that a goal's choice trees name.
-fn mark_choices(
+fn reach_choices(
     nodes: &[ChoiceNode],
-    found: &mut Reached,
+    found: &mut IndexSet<usize>,
     choices: &[Choice],
 ) -> Result<(), NoMemory>
-    requires { HaveTreesWithin nodes.now (length found.old.marks.items) choices.now }
-    ensures more { ReachesMore found.old.marks.items found.old.order.items found.new.marks.items found.new.order.items }
-    ensures ok { OnOk result (AllByRecursion (LeadsToMarked nodes.now found.new.marks.items) choices.now) }
-    ensures only { (g : ℕ) → is_marked found.new.marks.items g ≡ true → (is_marked found.old.marks.items g ≡ true) ⊎ SomeOf (λ (k : Choice). IsLeafAt nodes.now k.root g) choices.now }
+    requires { AllByRecursion (λ (k : Choice). HasTreeAt nodes.now k.root) choices.now }
+    ensures { OnOk result (Reaches (IsLeafOf nodes.now choices.now) found.old.keys found.new.keys) }
 {
     for choice in choices {
-        mark_leaves(nodes, found, choice.root)?;
+        reach_leaves(nodes, found, choice.root)?;
     }
     Ok(())
 }
@@ -90,7 +75,7 @@ pub(crate) fn no_marks(alloc: Global, count: usize) -> Result<Vec<bool>, NoMemor
 /// that wait.
 #[derive(Drop)]
 struct Walked {
-    order: Vec<usize>,
+    order: IndexSet<usize>,
     waiting: Vec<GoalId>,
 }
 
@@ -100,29 +85,28 @@ fn walk(alloc: Global, goals: &Goals, start: GoalId) -> Result<Walked, NoMemory>
     requires open_start { ¬ (IsRefuted goals.now.rows.items start.number) }
     requires trees { (i : ℕ) → HaveTreesWithin goals.now.nodes.items (length goals.now.rows.items) (row_at goals.now.rows.items i).choices }
     requires opens { (i : ℕ) → (row_at goals.now.rows.items i).standing ≡ Holds → AllByRecursion (IsOpen (view_of goals.now)) (row_at goals.now.rows.items i).choices }
-    ensures { IfOk result (λ walked. IsWalk (view_of goals.now) start.number walked.order.items walked.waiting.items) }
+    ensures { IfOk result (λ walked. IsWalk (view_of goals.now) start.number walked.order.keys walked.waiting.items) }
 {
-    let mut found = Reached {
-        marks: no_marks(alloc, goals.rows.len())?,
-        order: Vec::new(alloc),
-    };
-    mark(&mut found, start)?;
+    let mut found = IndexSet::new(alloc);
+    reach(&mut found, start)?;
     let mut waiting = Vec::new(alloc);
     let mut next = 0;
-    while next < found.order.len() {
-        let number = found.order[next];
+    while next < found.len() {
+        let number = found.as_slice()[next];
         let row = &goals.rows[number];
         if !is_settled(&goals.rows, GoalId { number }) {
             match row.standing {
-                Standing::Holds => mark_choices(&goals.nodes, &mut found, &row.choices)?,
+                Standing::Holds => reach_choices(&goals.nodes, &mut found, &row.choices)?,
                 Standing::Waiting => waiting.push(GoalId { number })?,
                 Standing::Refuted(_) => unreachable!(),
             }
         }
         next += 1;
     }
-    let Reached { order, .. } = found;
-    Ok(Walked { order, waiting })
+    Ok(Walked {
+        order: found,
+        waiting,
+    })
 }
 
 /// Marks goals as settled.
@@ -167,7 +151,7 @@ pub(crate) fn unsettled(
     }
     let walked = walk(alloc, goals, start)?;
     if walked.waiting.is_empty() {
-        mark_settled(&mut goals.rows, &walked.order);
+        mark_settled(&mut goals.rows, walked.order.as_slice());
         return Ok(Vec::new(alloc));
     }
     let Walked { waiting, .. } = walked;

@@ -1,6 +1,6 @@
 //! Work on one goal.
 
-ghost use Rattle.std.specs.Prelude.{◌≡◌, ◌<◌, [], false, true, length, IfOk, OnOk, Some, slice_get};
+ghost use Rattle.std.specs.Prelude.{◌≡◌, ℕ, ◌<◌, [], false, true, length, IfOk, OnOk, Some, slice_get};
 ghost use Rattle.std.specs.List.{AllByRecursion, list_any};
 ghost use Rattle.xd_doc.specs.Stored.{document_at};
 ghost use Rattle.xd_doc.specs.StoredSeq.{BelongsTo};
@@ -14,7 +14,7 @@ ghost use Rattle.xd_goals.specs.Cases.{BeginsAs, FailsAt, IsCaseGrown, IsMended,
 ghost use Rattle.xd_state_heads.specs.Wants.{IsCaseOf};
 ghost use Rattle.xd_goals.specs.Standing.{IsSeparatedBy};
 ghost use Rattle.xd_goals.specs.Facts.{ChoiceStands, FactsOn};
-ghost use Rattle.xd_goals.specs.Reached.{HasTreeWithin, IsOpenAt, IsWaitingIn};
+ghost use Rattle.xd_goals.specs.Reached.{HasTreeAt, IsLeafAt, IsWaitingIn};
 ghost use Rattle.xd_goals.specs.Progress.{CanBegin, CanWork, HasGrown, Progresses, Settles};
 
 use crate::goals::{Goals, hold, refute, set_root, set_standing};
@@ -205,8 +205,9 @@ fn begin(
 
 /// Whether a leaf of the tree names a refuted goal.
 fn is_broken(nodes: &[ChoiceNode], rows: &[Row], root: usize) -> bool
-    requires { HasTreeWithin nodes.now (length rows.now) root }
-    ensures { result ≡ false → IsOpenAt nodes.now rows.now root }
+    requires tree { HasTreeAt nodes.now root }
+    requires within { (g : ℕ) → IsLeafAt nodes.now root g → g < length rows.now }
+    ensures { result ≡ false → (g : ℕ) → IsLeafAt nodes.now root g → ¬ (IsRefuted rows.now g) }
 {
     match node_at(nodes, root) {
         ChoiceNode::Content(goal) => is_refuted(rows, goal),

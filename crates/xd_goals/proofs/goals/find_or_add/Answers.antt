@@ -1,5 +1,6 @@
 use Rattle.xd_goals.proofs.GrowsByLemmas.{Grows-same, found_claim, claim_within}
-use Rattle.xd_goals.specs.Kept.{view_of, found_at}
+use Rattle.xd_auto.specs.Keys.{found_at}
+use Rattle.xd_goals.specs.Kept.{view_of}
 use Rattle.std.proofs.Common.{◌≡◌, ◌∙◌, sym, ap, None}
 use Rattle.xd_state_heads.specs.Moves.{claim_with}
 use Rattle.xd_goals.specs.Rows.{claim_key}

@@ -1,16 +1,28 @@
 use Rattle.std.proofs.lemmas.Result.{IfOk-from_err}
-use Rattle.std.proofs.Common.{sym, true, false, ◌∙◌}
+use Rattle.std.proofs.Common.{length, sym, true, false, ◌∙◌}
 use Rattle.xd_state_heads.specs.Moves.{claim_with, heads_of}
 use Rattle.xd_goals.specs.Kept.{view_of}
+use Rattle.xd_goals.specs.Rows.{IsRefuted}
+use Rattle.xd_goals.proofs.IsWalkedLemmas.{leaf_within, open_leaves}
 use Rattle.xd_goals.proofs.HasGrownLemmas.{grown-same}
 use Rattle.xd_goals.proofs.IsTreeBySortLemmas.{case_can_grow, case_path, case_grown, case_tree, head_within, leaves_there, same_head}
 use Rattle.xd_goals.proofs.work.mend_choice.Goals as goal
 
-pub is_broken-requires : goal.is_broken-requires
-is_broken-requires c = rw (c.deref.ensures.value, c.deref-2.ensures.value) (leaves_there c.args.asked.now.auto.now (view_of c.args.goals.now) c.args.owner (claim_with c.args.asked.now.left c.args.asked.now.rights.now) c.args.choice.now c.requires.choice)
+pub is_broken-requires-clause-tree : goal.is_broken-requires-clause-tree
+is_broken-requires-clause-tree c =
+    let h = leaves_there c.args.asked.now.auto.now (view_of c.args.goals.now) c.args.owner (claim_with c.args.asked.now.left c.args.asked.now.rights.now) c.args.choice.now c.requires.choice in
+    rw c.deref.ensures.value (h.tree, h.stands)
+
+pub is_broken-requires-clause-within : goal.is_broken-requires-clause-within
+is_broken-requires-clause-within c =
+    let h = leaves_there c.args.asked.now.auto.now (view_of c.args.goals.now) c.args.owner (claim_with c.args.asked.now.left c.args.asked.now.rights.now) c.args.choice.now c.requires.choice in
+    rw (c.deref.ensures.value, c.deref-2.ensures.value) (leaf_within c.args.goals.now.nodes.items (length c.args.goals.now.rows.items) c.args.choice.now.root h)
 
 pub returns-then-not-is_broken-clause-grown : goal.returns-then-not-is_broken-clause-grown
-returns-then-not-is_broken-clause-grown c = record { stands = c.requires.choice; opens = rw (c.deref.ensures.value, c.deref-2.ensures.value) at (c.is_broken.ensures c.if-not-is_broken.true) }
+returns-then-not-is_broken-clause-grown c = record {
+  stands = c.requires.choice;
+  opens = open_leaves c.args.goals.now.nodes.items (λ g. ¬ (IsRefuted c.args.goals.now.rows.items g)) c.args.choice.now (rw (c.deref.ensures.value, c.deref-2.ensures.value) at (c.is_broken.ensures c.if-not-is_broken.true));
+}
 
 pub head_of-requires-clause-positive : goal.head_of-requires-clause-positive
 head_of-requires-clause-positive c = (head_within (heads_of c.args.asked.now.auto.now c.args.asked.now.left) c.args.choice.now.head c.requires.choice.head c.requires.choice.found).0
