@@ -1,20 +1,21 @@
 -- On the search for the states ahead of the start.
 use Rattle.std.proofs.Common.{◌≡◌, ◌⊎◌, inl, inr, ℕ, zero, suc, ◌+◌, ◌<◌, ◌≤◌, ⊎_elim, Bool, true, false, List, [], ◌∷◌, ◌++◌, length, replicate, get_or, set, get_or-set_same, get_or-set_other, Some, refl, sym, ap, ◌∙◌, subst, arith, length-append}
 use Rattle.std.proofs.Math.ListN.{length-set}
-use Rattle.std.specs.List.{All, slice_get}
+use Rattle.std.specs.List.{slice_get}
 use Rattle.std.proofs.lemmas.Bool.{cases_eq}
 use Rattle.std.proofs.lemmas.Option.{slice_get_read, slice_get_within}
 use Rattle.xd_doc.proofs.Lists.{there_front, last_at}
 use Rattle.xd_auto.specs.declared.auto.State.{State}
-use Rattle.xd_auto.specs.declared.auto.LabelMove.{LabelMove}
-use Rattle.xd_auto.specs.declared.auto.TextMove.{TextMove}
+use Rattle.xd_auto.specs.Copying.{LabelBelow}
 use Rattle.xd_auto.specs.Automaton.{Automaton, StateMoves, IsClosed, IsState, moves_at}
 use Rattle.xd_auto.proofs.Closed.{same_state}
 use Rattle.xd_empty.specs.Parts.{is_marked}
 use Rattle.xd_bind.proofs.MarkLemmas.{unmarked-set}
-use Rattle.xd_auto_pairs.specs.Traces.{Owned}
-use Rattle.xd_bind.specs.Search.{Grows, HasMark, LeadsAhead, over_text, over_element, into_element, IsTextFollowed, OthersHave, TextsMarked, ElementsMarked, IsVisiting, IsFollowed, AreFollowed, IsSearch, IsSideOf, is_rest, is_content}
-use Rattle.xd_auto_pairs.proofs.Steps.{closed_text, closed_element, some_same}
+use Rattle.xd_auto.specs.Leading.{LabelFilled, TextFilled, label_ends, text_ends}
+use Rattle.xd_auto.specs.declared.leading.Ends.{Ends}
+use Rattle.xd_auto.specs.Traces.{Owned}
+use Rattle.xd_bind.specs.Search.{AllFollowed, AreFollowed, Grows, HasMark, IsFollowed, IsSearch, IsSideOf, IsVisiting, LeadsAhead, LeadsBy, is_behind, is_inside}
+use Rattle.xd_auto.proofs.Steps.{closed_text, closed_element, some_same}
 use Rattle.xd_bind.specs.Ahead.{IsAhead, is_start, past_text, past_element, in_content, IsSearched}
 
 there_more : {X : Type 0} (xs : List X) (x y : X) (i : ℕ) → slice_get (xs ++ x ∷ []) i ≡ Some y → (slice_get xs i ≡ Some y) ⊎ (y ≡ x)
@@ -62,47 +63,42 @@ Grows-visit order marks state here not_yet = record {
   counted = let n = unmarked-set marks state.number here not_yet in omega (arith, length-append order (state ∷ []));
 }
 
-pub IsFollowed-kept : (free : State → Bool) (K : State → Type 0) (o : List State) (m : List Bool) (p : List State) (n : List Bool) (w : LabelMove) → Grows K o m p n → IsFollowed free m w
-    → IsFollowed free n w
-IsFollowed-kept free K o m p n w g h = record { rest = λ e. g.kept w.rest (h.rest e); content = λ e. g.kept w.content (h.content e); filled = h.filled }
+-- what was followed stays so while more states are marked
+module _ {M : Type 0} (Filled : M → Type 0) (ends : M → Ends) (owned : ℕ → Bool) (free : State → Bool) (moves : List M) (K : State → Type 0) (o : List State) (m : List Bool) (p : List State) (n : List Bool) (g : Grows K o m p n) where
+  pub followed_more : (w : M) → IsFollowed Filled ends free m w → IsFollowed Filled ends free n w
+  followed_more w h = record { sides = λ t e. g.kept t (h.sides t e); filled = h.filled }
 
-pub IsTextFollowed-kept : (K : State → Type 0) (o : List State) (m : List Bool) (p : List State) (n : List Bool) (w : TextMove) → Grows K o m p n → IsTextFollowed m w
-    → IsTextFollowed n w
-IsTextFollowed-kept K o m p n w g h = record { rest = g.kept w.rest h.rest; filled = h.filled }
+  pub all_followed_more : (count : ℕ) → AllFollowed Filled ends owned free moves m count → AllFollowed Filled ends owned free moves n count
+  all_followed_more count h i w l there own = followed_more w (h i w l there own)
 
-module _ (b : Owned) (free : State → Bool) (s : State) (moves : StateMoves) (K : State → Type 0) (o : List State) (m : List Bool) (p : List State) (n : List Bool) (g : Grows K o m p n) where
-  pub texts_kept : (count : ℕ) → TextsMarked b s moves.texts m count → TextsMarked b s moves.texts n count
-  texts_kept count h i w l there own = IsTextFollowed-kept K o m p n w g (h i w l there own)
-
-  pub elements_kept : (count : ℕ) → ElementsMarked b free s moves.labels m count → ElementsMarked b free s moves.labels n count
-  elements_kept count h i w l there own = IsFollowed-kept free K o m p n w g (h i w l there own)
-
-  pub followed_kept : AreFollowed b free s moves m → AreFollowed b free s moves n
-  followed_kept h = record { texts = texts_kept _ h.texts; elements = elements_kept _ h.elements }
-
--- what holds of all moves holds of the one that was read
-pub of_read : {M : Type 0} (P : M → Type 0) (read moves : List M) (i : ℕ) (m : M) → read ≡ moves → i < length read → m ≡ get_or read i m → All P moves → P m
-of_read P read moves i m e l is all = subst P (sym (is ∙ ap (λ ts. get_or ts i m) e)) (all i m (omega (arith, ap length e)))
+followed_kept : (b : Owned) (free : State → Bool) (s : State) (moves : StateMoves) (K : State → Type 0) (o : List State) (m : List Bool) (p : List State) (n : List Bool) → Grows K o m p n
+    → AreFollowed b free s moves m → AreFollowed b free s moves n
+followed_kept b free s moves K o m p n g h = record {
+  texts = all_followed_more TextFilled text_ends (b.text s) free moves.texts K o m p n g _ h.texts;
+  elements = all_followed_more LabelFilled label_ends (b.element s) free moves.labels K o m p n g _ h.elements;
+}
 
 -- one more move
-module _ {M : Type 0} (Kind : State → Type 0) (owned : ℕ → Bool) (Has : List Bool → M → Type 0) (moves : List M) (order : List State) (marks : List Bool) where
-  others_more : (n : List Bool) (count : ℕ) (w : M) → slice_get moves count ≡ Some w → OthersHave owned (Has n) moves count → (owned count ≡ false → Has n w) → OthersHave owned (Has n) moves (count + 1)
-  others_more n count w there h last i t l at own = ⊎_elim
-      (λ same. let is : w ≡ t = some_same (sym there ∙ ap (λ k. slice_get moves k) (sym same) ∙ at) in subst (Has n) is (last (ap owned (sym same) ∙ own)))
+module _ {M : Type 0} (Filled : M → Type 0) (ends : M → Ends) (owned : ℕ → Bool) (free : State → Bool) (moves : List M) (order : List State) (marks : List Bool) where
+  all_followed_next : (n : List Bool) (count : ℕ) (w : M) → slice_get moves count ≡ Some w → AllFollowed Filled ends owned free moves n count → (owned count ≡ false → IsFollowed Filled ends free n w)
+      → AllFollowed Filled ends owned free moves n (count + 1)
+  all_followed_next n count w there h last i t l at own = ⊎_elim
+      (λ same. let is : w ≡ t = some_same (sym there ∙ ap (λ k. slice_get moves k) (sym same) ∙ at) in subst (IsFollowed Filled ends free n) is (last (ap owned (sym same) ∙ own)))
       (λ ne. h i t (omega arith) at own)
       (cases_eq i count)
 
   -- it belongs to the variable, or was followed before
-  pub visit_past : (p : List State) (n : List Bool) (count : ℕ) (w : M) → slice_get moves count ≡ Some w → (owned count ≡ false → Has n w) → IsVisiting Kind owned Has moves order marks p n count
-      → IsVisiting Kind owned Has moves order marks p n (count + 1)
-  visit_past p n count w there has h = record { grows = h.grows; marked = others_more n count w there h.marked has }
+  pub visit_past : (p : List State) (n : List Bool) (count : ℕ) (w : M) → slice_get moves count ≡ Some w → (owned count ≡ false → IsFollowed Filled ends free n w)
+      → IsVisiting Filled ends owned free moves order marks p n count → IsVisiting Filled ends owned free moves order marks p n (count + 1)
+  visit_past p n count w there has h = record { grows = h.grows; marked = all_followed_next n count w there h.marked has }
 
   -- it is followed
-  pub visit_more : (K : State → Type 0) (p : List State) (n : List Bool) (q : List State) (r : List Bool) (count : ℕ) (w : M) → slice_get moves count ≡ Some w → ((v : M) → Has n v → Has r v) → ((s : State) → K s → Kind s)
-      → Grows K p n q r → Has r w → IsVisiting Kind owned Has moves order marks p n count → IsVisiting Kind owned Has moves order marks q r (count + 1)
-  visit_more K p n q r count w there kept kind g has h = record {
-    grows = Grows-trans Kind order marks p n q r h.grows (Grows-weaker K Kind p n q r kind g);
-    marked = others_more r count w there (λ i v l at own. kept v (h.marked i v l at own)) (λ o. has);
+  pub visit_more : (p : List State) (n : List Bool) (q : List State) (r : List Bool) (count : ℕ) (w : M) → slice_get moves count ≡ Some w → owned count ≡ false → Grows (IsSideOf free (ends w)) p n q r
+      → IsFollowed Filled ends free r w → IsVisiting Filled ends owned free moves order marks p n count → IsVisiting Filled ends owned free moves order marks q r (count + 1)
+  visit_more p n q r count w there own g has h = record {
+    grows = Grows-trans (LeadsBy ends owned free moves) order marks p n q r h.grows
+        (Grows-weaker (IsSideOf free (ends w)) (LeadsBy ends owned free moves) p n q r (λ t side. record { number = count; move = w; there = there; own = own; side = side }) g);
+    marked = all_followed_next r count w there (all_followed_more Filled ends owned free moves (IsSideOf free (ends w)) p n q r g count h.marked) (λ o. has);
   }
 
 -- a state that was listed
@@ -123,15 +119,22 @@ module _ (a : Automaton) (b : Owned) (start : State) (free : State → Bool) (cl
   }
 
   leads : (s t : State) → IsState a s → IsAhead a b free start s → LeadsAhead b free s (moves_at a s) t → IsState a t × IsAhead a b free start t
-  leads s t here p (over_text n m there own is) =
-      let below = closed_text a s n m closed here there in
-      (subst (λ q. IsState a q) is below, subst (λ q. IsAhead a b free start q) is (past_text s m n p there own))
-  leads s t here p (over_element n m there own other is) =
-      let below = closed_element a s n m closed here there in
-      (subst (λ q. IsState a q) is below.1, subst (λ q. IsAhead a b free start q) is (past_element s m n p there own other))
-  leads s t here p (into_element n m there own other is) =
-      let below = closed_element a s n m closed here there in
-      (subst (λ q. IsState a q) is below.0, subst (λ q. IsAhead a b free start q) is (in_content s m n p there own other))
+  leads s t here p (inl l) = over l.side
+    where
+      over : IsSideOf free (text_ends l.move) t → IsState a t × IsAhead a b free start t
+      over (is_behind other is) =
+          (subst (λ q. IsState a q) is (closed_text a s l.number l.move closed here l.there), subst (λ q. IsAhead a b free start q) is (past_text s l.move l.number p l.there l.own))
+      over (is_inside other is) = absurd (cc)
+  leads s t here p (inr l) = over l.side
+    where
+      below : LabelBelow (length a) l.move
+      below = closed_element a s l.number l.move closed here l.there
+
+      over : IsSideOf free (label_ends l.move) t → IsState a t × IsAhead a b free start t
+      over (is_behind other is) = (subst (λ q. IsState a q) is below.1, subst (λ q. IsAhead a b free start q) is (past_element s l.move l.number p l.there l.own other))
+      over (is_inside other e) =
+          let is : l.move.content ≡ t = some_same e in
+          (subst (λ q. IsState a q) is below.0, subst (λ q. IsAhead a b free start q) is (in_content s l.move l.number p l.there l.own other))
 
   pub search_more : (order : List State) (marks : List Bool) (count : ℕ) (s : State) (order2 : List State) (marks2 : List Bool) → IsSearch a b start free order marks count
       → slice_get order count ≡ Some s → Grows (LeadsAhead b free s (moves_at a s)) order marks order2 marks2 → AreFollowed b free s (moves_at a s) marks2
@@ -180,9 +183,9 @@ module _ (a : Automaton) (b : Owned) (start : State) (free : State → Bool) (cl
 
       marked : (s : State) → IsAhead a b free start s → is_marked marks s ≡ true
       marked s is_start = h.begun
-      marked s (past_text p m n k there own) = ((at_once p (marked p k)).texts n m (slice_get_within (moves_at a p).texts n m there) there own).rest
-      marked s (past_element p m n k there own other) = ((at_once p (marked p k)).elements n m (slice_get_within (moves_at a p).labels n m there) there own).rest other
-      marked s (in_content p m n k there own other) = ((at_once p (marked p k)).elements n m (slice_get_within (moves_at a p).labels n m there) there own).content other
+      marked s (past_text p m n k there own) = ((at_once p (marked p k)).texts n m (slice_get_within (moves_at a p).texts n m there) there own).sides m.rest (is_behind tt refl)
+      marked s (past_element p m n k there own other) = ((at_once p (marked p k)).elements n m (slice_get_within (moves_at a p).labels n m there) there own).sides m.rest (is_behind other refl)
+      marked s (in_content p m n k there own other) = ((at_once p (marked p k)).elements n m (slice_get_within (moves_at a p).labels n m there) there own).sides m.content (is_inside other refl)
 
       followed : (s : State) → IsAhead a b free start s → AreFollowed b free s (moves_at a s) marks
       followed s p = at_once s (marked s p)
@@ -191,8 +194,3 @@ pub none_marked : (n k : ℕ) → get_or (replicate n false) k false ≡ false
 none_marked zero k = refl
 none_marked (suc n) zero = refl
 none_marked (suc n) (suc k) = none_marked n k
-
-pub side_leads : (b : Owned) (free : State → Bool) (s : State) (moves : StateMoves) (n : ℕ) (m : LabelMove) → slice_get moves.labels n ≡ Some m → b.element s n ≡ false
-    → (t : State) → IsSideOf free m t → LeadsAhead b free s moves t
-side_leads b free s moves n m there own t (is_rest e f) = over_element n m there own e f
-side_leads b free s moves n m there own t (is_content e f) = into_element n m there own e f

@@ -3,4 +3,3 @@ pub mod Automata
 pub mod ChangeLemmas
 pub mod IsSearchLemmas
 pub mod CopiedLemmas
-pub mod SameOwned

@@ -5,7 +5,7 @@ use Rattle.xd_auto.specs.declared.auto.State.{State}
 use Rattle.xd_auto.specs.declared.auto.LabelMove.{LabelMove}
 use Rattle.xd_auto.specs.declared.auto.TextMove.{TextMove}
 use Rattle.xd_auto.specs.Automaton.{Automaton, IsState, moves_at}
-use Rattle.xd_auto_pairs.specs.Traces.{Owned}
+use Rattle.xd_auto.specs.Traces.{Owned}
 
 -- Moves that don't belong to the variable lead from the start to the state, and what they leave
 -- aside can be completed without it.

@@ -3,13 +3,13 @@ use Rattle.std.specs.Prelude.{◌≡◌, ℕ, ◌<◌, Bool, true, false, ◌&&�
 use Rattle.std.specs.List.{All, list_any}
 use Rattle.xd_auto.specs.declared.auto.State.{State}
 use Rattle.xd_auto.specs.Automaton.{Automaton, IsState}
-use Rattle.xd_auto_pairs.specs.declared.kind.MoveKind.{MoveKind}
-use Rattle.xd_auto_pairs.specs.declared.kind.MoveKind.TheVariants.{Label, Text}
+use Rattle.xd_auto.specs.declared.kind.MoveKind.{MoveKind}
+use Rattle.xd_auto.specs.declared.kind.MoveKind.TheVariants.{Label, Text}
 use Rattle.xd_bind.specs.declared.tracks.Track.{Track}
 use Rattle.xd_bind.specs.declared.tracks.Tracks.{Tracks}
 use Rattle.xd_bind.specs.declared.tracks.Binding.{Binding}
 use Rattle.xd_bind.specs.declared.tracks.Given.{Given}
-use Rattle.xd_auto_pairs.specs.Traces.{Owned, AcceptsGiven, KeepsTogether}
+use Rattle.xd_auto.specs.Traces.{Owned, AcceptsGiven, KeepsTogether}
 
 abbrev pub is_kind : MoveKind → MoveKind → Bool
 is_kind Label Label = true

@@ -1,17 +1,16 @@
 //! The states where the items of a variable may begin.
 
-ghost use Rattle.std.specs.Prelude.{◌≡◌, ◌≤◌, Bool, true, IfOk, OnOk, length};
-ghost use Rattle.std.specs.List.{All};
-ghost use Rattle.xd_auto.specs.declared.auto.State.{State as StateView};
+ghost use Rattle.std.specs.Prelude.{◌≡◌, ◌≤◌, true, IfOk, OnOk, length};
 ghost use Rattle.xd_auto.specs.Automaton.{IsState, moves_at};
 ghost use Rattle.xd_empty.specs.Parts.{is_marked};
-ghost use Rattle.xd_bind.specs.Search.{ElementsMarked, Grows, HasMark, IsFollowed, IsSideOf, IsTextFollowed, LeadsAhead, TextsMarked};
+ghost use Rattle.xd_auto.specs.Leading.{EndsAre};
 ghost use Rattle.xd_bind.specs.Ahead.{IsSearched};
+ghost use Rattle.xd_bind.specs.Owning.{is_owned};
+ghost use Rattle.xd_bind.specs.Search.{AllFollowed, Grows, HasMark, IsSideOf, LeadsBy, SidesMarked};
 
 use crate::holds::Holds;
 use std::alloc::Global;
-use xd_auto::{Auto, LabelMove, State, TextMove};
-use xd_auto_pairs::MoveKind;
+use xd_auto::{Auto, Ends, LabelMove, Leads, State, TextMove};
 use xd_doc::NoMemory;
 
 /// States in the order in which they were found, and for each state of the automaton whether it was
@@ -58,82 +57,40 @@ impl Search {
         !free || self.marks[state.number()]
     }
 
-    /// Whether it has found what a move on a text leads to.
-    fn has_text_move(&self, step: &TextMove) -> bool
-        requires { HasMark self.now.marks.items step.now.rest }
-        ensures { result ≡ true → IsTextFollowed self.now.marks.items step.now }
-    {
-        step.words.has_some();
-        self.has_if(true, step.rest)
-    }
-
-    /// Finds what a move on a text leads to.
-    fn visit_text_move(&mut self, step: &TextMove) -> Result<(), NoMemory>
-        requires { HasMark self.old.marks.items step.now.rest }
-        ensures grows { OnOk result (Grows (λ t. t ≡ step.now.rest) self.old.order.items self.old.marks.items self.new.order.items self.new.marks.items) }
-        ensures marked { OnOk result (IsTextFollowed self.new.marks.items step.now) }
-    {
-        step.words.has_some();
-        self.visit(step.rest)?;
-        Ok(())
-    }
-
-    /// Finds what the moves on a text lead to.
-    fn visit_texts<H: Holds>(
-        &mut self,
-        auto: &Auto,
-        owner: &H,
-        variable: usize,
-        state: State,
-    ) -> Result<(), NoMemory>
-        requires state { IsState auto.now state }
-        requires rests { All (λ m. HasMark self.old.marks.items m.rest) (moves_at auto.now state).texts }
-        ensures grows { OnOk result ((free : StateView → Bool) → Grows (LeadsAhead (H.owned owner.now variable) free state (moves_at auto.now state)) self.old.order.items self.old.marks.items self.new.order.items self.new.marks.items) }
-        ensures marked { OnOk result (TextsMarked (H.owned owner.now variable) state (moves_at auto.now state).texts self.new.marks.items (length (moves_at auto.now state).texts)) }
-    {
-        let moves = auto.text_moves(state);
-        for number in 0..moves.len() {
-            let step = &moves[number];
-            if !self.has_text_move(step) {
-                if !owner.holds(state, MoveKind::Text, number, variable) {
-                    self.visit_text_move(step)?;
-                }
-            }
-        }
-        Ok(())
-    }
-
-    /// Whether it has found what a move on an element leads to, where what it leaves aside is free.
-    fn has_move(&self, free: &[bool], step: &LabelMove) -> bool
+    /// Whether it has found those of these states where the other one is free.
+    fn has_ends(&self, free: &[bool], ends: Ends) -> bool
         requires room { length self.now.marks.items ≤ length free.now }
-        requires content { HasMark self.now.marks.items step.now.content }
-        requires rest { HasMark self.now.marks.items step.now.rest }
-        ensures { result ≡ true → IsFollowed (is_marked free.now) self.now.marks.items step.now }
+        requires ends { EndsAre (HasMark self.now.marks.items) ends }
+        ensures { result ≡ true → SidesMarked (is_marked free.now) self.now.marks.items ends }
     {
-        step.class.has_some();
-        let past = free[step.content.number()];
-        let into = free[step.rest.number()];
-        self.has_if(past, step.rest) && self.has_if(into, step.content)
+        let Some(inside) = ends.inside else {
+            return self.has_if(true, ends.behind);
+        };
+        let past = free[inside.number()];
+        let into = free[ends.behind.number()];
+        self.has_if(past, ends.behind) && self.has_if(into, inside)
     }
 
-    /// Finds what a move on an element leads to, where what it leaves aside is free.
-    fn visit_move(&mut self, free: &[bool], step: &LabelMove) -> Result<(), NoMemory>
+    /// Finds those of these states where the other one is free.
+    fn visit_ends(&mut self, free: &[bool], ends: Ends) -> Result<(), NoMemory>
         requires room { length self.old.marks.items ≤ length free.now }
-        requires content { HasMark self.old.marks.items step.now.content }
-        requires rest { HasMark self.old.marks.items step.now.rest }
-        ensures grows { OnOk result (Grows (IsSideOf (is_marked free.now) step.now) self.old.order.items self.old.marks.items self.new.order.items self.new.marks.items) }
-        ensures marked { OnOk result (IsFollowed (is_marked free.now) self.new.marks.items step.now) }
+        requires ends { EndsAre (HasMark self.old.marks.items) ends }
+        ensures grows { OnOk result (Grows (IsSideOf (is_marked free.now) ends) self.old.order.items self.old.marks.items self.new.order.items self.new.marks.items) }
+        ensures marked { OnOk result (SidesMarked (is_marked free.now) self.new.marks.items ends) }
     {
-        step.class.has_some();
-        let past = free[step.content.number()];
-        let into = free[step.rest.number()];
-        self.visit_if(past, step.rest)?;
-        self.visit_if(into, step.content)?;
+        let Some(inside) = ends.inside else {
+            self.visit(ends.behind)?;
+            return Ok(());
+        };
+        let past = free[inside.number()];
+        let into = free[ends.behind.number()];
+        self.visit_if(past, ends.behind)?;
+        self.visit_if(into, inside)?;
         Ok(())
     }
 
-    /// Finds what the moves on an element lead to.
-    fn visit_elements<H: Holds>(
+    /// Finds what the moves of a kind lead to.
+    fn visit_moves<M: Leads, H: Holds>(
         &mut self,
         auto: &Auto,
         owner: &H,
@@ -142,18 +99,17 @@ impl Search {
         state: State,
     ) -> Result<(), NoMemory>
         requires state { IsState auto.now state }
-        requires room { length self.old.marks.items ≤ length free.now }
-        requires contents { All (λ m. HasMark self.old.marks.items m.content) (moves_at auto.now state).labels }
-        requires rests { All (λ m. HasMark self.old.marks.items m.rest) (moves_at auto.now state).labels }
-        ensures grows { OnOk result (Grows (LeadsAhead (H.owned owner.now variable) (is_marked free.now) state (moves_at auto.now state)) self.old.order.items self.old.marks.items self.new.order.items self.new.marks.items) }
-        ensures marked { OnOk result (ElementsMarked (H.owned owner.now variable) (is_marked free.now) state (moves_at auto.now state).labels self.new.marks.items (length (moves_at auto.now state).labels)) }
+        requires marks { length self.old.marks.items ≡ length auto.now }
+        requires free { length free.now ≡ length auto.now }
+        ensures grows { OnOk result (Grows (LeadsBy M.ends_of (is_owned (H.owned owner.now variable) M.KIND state) (is_marked free.now) (M.moves_in (moves_at auto.now state))) self.old.order.items self.old.marks.items self.new.order.items self.new.marks.items) }
+        ensures marked { OnOk result (AllFollowed M.Filled M.ends_of (is_owned (H.owned owner.now variable) M.KIND state) (is_marked free.now) (M.moves_in (moves_at auto.now state)) self.new.marks.items (length (M.moves_in (moves_at auto.now state)))) }
     {
-        let moves = auto.label_moves(state);
+        let moves = M::moves(auto, state);
         for number in 0..moves.len() {
-            let step = &moves[number];
-            if !self.has_move(free, step) {
-                if !owner.holds(state, MoveKind::Label, number, variable) {
-                    self.visit_move(free, step)?;
+            let ends = moves[number].ends();
+            if !self.has_ends(free, ends) {
+                if !owner.holds(state, M::KIND, number, variable) {
+                    self.visit_ends(free, ends)?;
                 }
             }
         }
@@ -183,8 +139,8 @@ pub fn states_ahead<H: Holds>(
     let mut done = 0;
     while done < search.order.len() {
         let state = search.order[done];
-        search.visit_texts(auto, owner, variable, state)?;
-        search.visit_elements(auto, owner, variable, free, state)?;
+        search.visit_moves::<TextMove, H>(auto, owner, variable, free, state)?;
+        search.visit_moves::<LabelMove, H>(auto, owner, variable, free, state)?;
         done += 1;
     }
     Ok(search.order)

@@ -3,12 +3,11 @@
 ghost use Rattle.std.specs.Prelude.{◌≡◌, ℕ};
 ghost use Rattle.xd_bind.specs.Owning.{is_owned};
 
-use xd_auto::State;
-use xd_auto_pairs::MoveKind;
+use xd_auto::{MoveKind, State};
 
 /// What says which moves of an automaton belong to which variables; both are numbered from 0.
 pub trait Holds {
-    ghost use Rattle.xd_auto_pairs.specs.Traces.{Owned};
+    ghost use Rattle.xd_auto.specs.Traces.{Owned};
 
     /// The moves of the variable of this number.
     ghost owned: { Self → ℕ → Owned };

@@ -12,4 +12,4 @@ pub use ahead::states_ahead;
 pub use copying::copied;
 pub use holds::Holds;
 pub use tracks::{Binding, Given, Track, Tracks};
-pub use xd_auto_pairs::MoveKind;
+pub use xd_auto::MoveKind;

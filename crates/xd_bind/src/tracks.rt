@@ -1,7 +1,6 @@
 //! Automata whose moves belong to variables.
 
-use xd_auto::{Auto, State};
-use xd_auto_pairs::MoveKind;
+use xd_auto::{Auto, MoveKind, State};
 use xd_doc::Label;
 
 /// The move of this kind and number of the state belongs to the variable: the item that it takes is

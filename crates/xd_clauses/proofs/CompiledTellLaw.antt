@@ -1,34 +1,30 @@
 -- What runs of a compiled pattern give its variables is what its ways bind them to.
 use Rattle.std.proofs.Common.{◌≡◌, ◌↔◌, ℕ, true, cond, List, [], ◌∷◌, ap, sym, subst, ◌∙◌}
 use Rattle.xd_doc.specs.Document.{Document}
+use Rattle.xd_doc.specs.Runs.{Run, Trace, held, IsTogether}
 use Rattle.xd_auto.specs.declared.auto.State.{State}
 use Rattle.xd_auto.specs.Automaton.{Automaton}
-use Rattle.xd_auto.specs.Runs as Numbered
 use Rattle.xd_syntax.specs.Words.{has_word}
 use Rattle.xd_syntax.specs.Tree.{Tree, Definitions, occurrences}
 use Rattle.xd_syntax.specs.Placed.{unplaced}
 use Rattle.xd_syntax.specs.Ways.{Among}
 use Rattle.xd_pattern_runs.specs.Laws.{Agree}
 use Rattle.xd_pattern_runs.specs.Linear.{given}
-use Rattle.xd_pattern_runs.specs.Runs as runs
+use Rattle.xd_pattern_runs.specs.Runs.{trace}
 use Rattle.xd_pattern_runs.proofs.TheLaws.{given_once}
-use Rattle.xd_auto_pairs.specs.Traces.{KeepsTogether, IsTogether, held, trace_of}
-use Rattle.xd_patterns.specs.Marked.{Marking, IsCompiled, with_marks}
-use Rattle.xd_clauses.specs.Owning.{moves_of}
+use Rattle.xd_auto.specs.Traces.{KeepsTogether, trace_of}
+use Rattle.xd_patterns.specs.Marked.{Marking, IsCompiled, with_marks, moves_of}
+use Rattle.xd_patterns.proofs.MarksLaw.{owned_trace}
 use Rattle.xd_clauses.specs.Laws.{CompiledKeepTogether, CompiledTell}
-use Rattle.xd_clauses.proofs.Forms.{same_trace, together_on, held_same}
 
 pub keeps_together : (E : Definitions) (P : Tree) (a : Automaton) (k : Marking) (s : State) → IsCompiled E P a k s → (x : List ℕ) → KeepsTogether a (moves_of k x) s
-keeps_together E P a k s c x d run acc = subst IsTogether (sym (same_trace a k x s run)) (together_on x (with_marks a k s run) (c.together d run acc x))
+keeps_together E P a k s c x d run acc = subst IsTogether (owned_trace a k x s run) (c.together d run acc x)
 
-module _ (P : Tree) (a : Automaton) (k : Marking) (s : State) (x : List ℕ) (there : has_word (occurrences P) x ≡ true) (d : Document) (run : Numbered.Run) where
-  same_held : runs.held x d (with_marks a k s run) ≡ held d (trace_of a (moves_of k x) s run)
-  same_held = held_same x d (with_marks a k s run) ∙ ap (held d) (sym (same_trace a k x s run))
-
+module _ (P : Tree) (a : Automaton) (k : Marking) (s : State) (x : List ℕ) (there : has_word (occurrences P) x ≡ true) (d : Document) (run : Run ℕ) where
   -- the variable is bound once, to what the run gives it
   pub bound_to_held : (bs : List (List ℕ × Document)) → Agree (occurrences P) d (with_marks a k s run) bs → given x bs ≡ held d (trace_of a (moves_of k x) s run) ∷ []
   bound_to_held bs agree =
-      agree x ∙ ap (λ b. cond b (runs.held x d (with_marks a k s run) ∷ []) []) there ∙ ap (λ e. e ∷ []) same_held
+      agree x ∙ ap (λ b. cond b (held d (trace x (with_marks a k s run)) ∷ []) []) there ∙ ap (λ (t : Trace). held d t ∷ []) (owned_trace a k x s run)
 
   pub bound : (bs : List (List ℕ × Document)) → Agree (occurrences P) d (with_marks a k s run) bs → (e : Document) → Among (x, e) bs ↔ (e ≡ held d (trace_of a (moves_of k x) s run))
   bound bs agree e = (given_once x bs (held d (trace_of a (moves_of k x) s run)) (bound_to_held bs agree)).1 e

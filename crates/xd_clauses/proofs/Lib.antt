@@ -1,4 +1,3 @@
-pub mod Forms
 pub mod CompiledTellLaw
 pub mod ListedLemmas
 pub mod NoneTakesLemmas

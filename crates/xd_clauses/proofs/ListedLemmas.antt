@@ -7,12 +7,12 @@ use Rattle.std.proofs.lemmas.Bool.Decides.{nat_tests}
 use Rattle.std.proofs.lemmas.Map.Views.{Contains-from_any}
 use Rattle.xd_doc.proofs.Bools.{and_left, and_right}
 use Rattle.xd_auto.specs.declared.auto.State.{State}
-use Rattle.xd_auto_pairs.specs.declared.kind.MoveKind.{MoveKind}
-use Rattle.xd_auto_pairs.specs.declared.kind.MoveKind.TheVariants.{Label, Text}
+use Rattle.xd_auto.specs.declared.kind.MoveKind.{MoveKind}
+use Rattle.xd_auto.specs.declared.kind.MoveKind.TheVariants.{Label, Text}
 use Rattle.xd_bind.specs.Owning.{is_owned}
 use Rattle.xd_syntax.specs.Words.{has_word}
 use Rattle.xd_patterns.specs.CompiledProgram.{marking_of_program, words_of_program}
-use Rattle.xd_patterns.specs.Held.{marks_at}
+use Rattle.xd_patterns.specs.Marked.{marks_at}
 use Rattle.xd_patterns.specs.Variables.{words_of}
 use Rattle.xd_patterns.specs.declared.compiled.CompiledProgram.{CompiledProgram}
 use Rattle.xd_patterns.proofs.VariableLemmas.{number_held}

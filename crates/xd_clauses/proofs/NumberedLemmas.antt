@@ -8,6 +8,7 @@ use Rattle.std.proofs.lemmas.Bool.Decides.{nat_tests}
 use Rattle.std.proofs.lemmas.Bool.{false_from_ne_true, or_parts, or_from}
 use Rattle.xd_doc.specs.Document.{Document, is_proper}
 use Rattle.xd_doc.proofs.Lists.{last_at, all_get, all_take}
+use Rattle.xd_doc.specs.Runs.{held, IsFree}
 use Rattle.xd_auto.specs.declared.auto.State.{State}
 use Rattle.xd_auto.specs.Automaton.{Automaton, Extends, IsClosed, IsState, KeepsAccepting, accepts}
 use Rattle.xd_auto.proofs.RunLaw.{runs_law}
@@ -26,24 +27,22 @@ use Rattle.xd_syntax.proofs.Words.{got_among}
 use Rattle.xd_meaning.specs.Bindings.{variables_of}
 use Rattle.xd_meaning.specs.KeptFaults.{AllPaired}
 use Rattle.xd_laws.proofs.Unfoldings.{same_word_eq}
-use Rattle.xd_auto_pairs.specs.declared.kind.MoveKind.TheVariants as M
-use Rattle.xd_auto_pairs.specs.Traces.{IsFree, KeepsTogether, Owned, held}
+use Rattle.xd_auto.specs.declared.kind.MoveKind.TheVariants as M
+use Rattle.xd_auto.specs.Traces.{KeepsTogether, Owned}
 use Rattle.xd_bind.specs.declared.tracks.Given.{Given}
-use Rattle.xd_bind.proofs.SameOwned.{SameOwned, same_back, together_same, trace_same}
+use Rattle.xd_auto.proofs.SameMoves.{SameMoves, same_back, together_same, trace_same}
 use Rattle.xd_given.specs.Given.{AreGivensFor, IsGivenFor, IsSharedAlone}
 use Rattle.xd_given.specs.Owning.{GivesAlike, IsWhole, LeavesOutAlike, owns_first}
 use Rattle.xd_points.specs.Tables.{takes_alone}
 use Rattle.xd_continuations.proofs.LeadsToLemmas.{among_has}
 use Rattle.xd_patterns.specs.CompiledProgram.{AcceptsType, AreWithin, IsPatternState, marking_of_program, pattern_states, pattern_variables, words_of_program}
 use Rattle.xd_patterns.specs.CompiledState.{CompiledStatesStay, IsCompiledState}
-use Rattle.xd_patterns.specs.Held.{marks_at}
-use Rattle.xd_patterns.specs.Marked.{Marking}
+use Rattle.xd_patterns.specs.Marked.{Marking, marks_at, moves_of}
 use Rattle.xd_patterns.specs.declared.compiled.CompiledProgram.{CompiledProgram}
 use Rattle.xd_patterns.proofs.VariableLemmas.{variables_have}
 use Rattle.xd_clauses.specs.Clauses.{Accepted, AreGivensOf, AreMayGivens, IsGivenOf}
 use Rattle.xd_clauses.specs.Cases.{placed_pattern, placed_patterns}
 use Rattle.xd_clauses.specs.Compiled.{ArePatterns, AreRunsGivens, IsNumbered, LeavesOut, RunsGive, state_of, variables_at, word_moves}
-use Rattle.xd_clauses.specs.Owning.{moves_of}
 use Rattle.xd_clauses.specs.declared.compiled.CompiledPatterns.{CompiledPatterns}
 use Rattle.xd_clauses.proofs.Givens.{got_word, same_words}
 use Rattle.xd_clauses.proofs.CompiledTellLaw.{keeps_together, tells}
@@ -95,13 +94,13 @@ among_got (v ∷ vs) (suc x) h = inr (among_got vs x (omega arith))
 tested : (x n : ℕ) (b : Bool) → x < n → (nat_lt x n && b) ≡ b
 tested x n b h = let t : nat_lt x n ≡ true = grind (arith, nat_tests) in ap (λ v. v && b) t
 
-pub word_same : (m : CompiledProgram) (ws : List (List ℕ)) (x : ℕ) → x < length ws → SameOwned (word_moves m ws x) (moves_of (marking_of_program m) (get_or ws x []))
+pub word_same : (m : CompiledProgram) (ws : List (List ℕ)) (x : ℕ) → x < length ws → SameMoves (word_moves m ws x) (moves_of (marking_of_program m) (get_or ws x []))
 word_same m ws x h = record {
   text = λ s n. tested x (length ws) (has_word (marks_at (marking_of_program m s) M.Text n) (get_or ws x [])) h;
   element = λ s n. tested x (length ws) (has_word (marks_at (marking_of_program m s) M.Label n) (get_or ws x [])) h;
 }
 
-alike_same : (a : Automaton) (b c : Owned) → SameOwned b c → (s : State) → GivesAlike a b s → GivesAlike a c s
+alike_same : (a : Automaton) (b c : Owned) → SameMoves b c → (s : State) → GivesAlike a b s → GivesAlike a c s
 alike_same a b c h s g =
     let first : owns_first b s ≡ owns_first c s = ap (λ v. v || b.text s 0) (h.element s 0) ∙ ap (λ v. c.element s 0 || v) (h.text s 0) in
     record {
@@ -259,7 +258,7 @@ module _ (E : Definitions) (P : PlacedTree) (m : CompiledPatterns) (n : ℕ) (i 
 
   -- ---- what the variables are given, where this is known of the moves that belong to a word
 
-  module _ (V : Allowance) (gives : Owned → Document → Type 0) (same : (b c : Owned) → SameOwned b c → (e : Document) → gives b e → gives c e)
+  module _ (V : Allowance) (gives : Owned → Document → Type 0) (same : (b c : Owned) → SameMoves b c → (e : Document) → gives b e → gives c e)
       (law : (x : List ℕ) → has_word (variables_of (unplaced P)) x ≡ true → (e : Document) → is_proper e ≡ true → gives (moves_of (marking_of_program m.compiled) x) e ↔ V x e) (made : Automaton) where
     one_given : (x : ℕ) (b : Given) → x < length (variables_at m n) → IsGivenFor gives (word_moves m.compiled (variables_at m n)) (variables_at m n) made x b → IsGivenOf V made b
     one_given x b h c =
@@ -288,7 +287,7 @@ module _ (E : Definitions) (P : PlacedTree) (m : CompiledPatterns) (n : ℕ) (i 
   -- ---- what they may be
 
   module _ (q : Automaton) (t : State) where
-    same_given : (b c : Owned) → SameOwned b c → (e : Document) → RunsGive false q m n t b e → RunsGive false q m n t c e
+    same_given : (b c : Owned) → SameMoves b c → (e : Document) → RunsGive false q m n t b e → RunsGive false q m n t c e
     same_given b c h e g = record {
       given = record {
         document = g.given.document;

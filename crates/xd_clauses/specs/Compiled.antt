@@ -4,9 +4,9 @@ use Rattle.std.specs.List.{AllByRecursion, slice_get}
 use Rattle.xd_doc.specs.Document.{Document}
 use Rattle.xd_auto.specs.declared.auto.State.{State}
 use Rattle.xd_auto.specs.Automaton.{Automaton}
-use Rattle.xd_auto_pairs.specs.declared.kind.MoveKind.TheVariants.{Label, Text}
-use Rattle.xd_auto_pairs.specs.Traces.{Owned}
-use Rattle.xd_auto_pairs.specs.Universal.{IsUniversal}
+use Rattle.xd_auto.specs.declared.kind.MoveKind.TheVariants.{Label, Text}
+use Rattle.xd_auto.specs.Traces.{Owned}
+use Rattle.xd_auto.specs.Universal.{IsUniversal}
 use Rattle.xd_bind.specs.declared.tracks.Given.{Given}
 use Rattle.xd_given.specs.Given.{AreGivensFor, IsGivenAloneBy}
 use Rattle.xd_given.specs.Owning.{GivesAlike}
@@ -17,7 +17,7 @@ use Rattle.xd_syntax.specs.Tree.{Definitions, Tree}
 use Rattle.xd_syntax.specs.Patterns.{pattern_tree}
 use Rattle.xd_syntax.specs.declared.patterns.PatternId.{PatternId}
 use Rattle.xd_patterns.specs.CompiledProgram.{AreWithin, IsPatternState, marking_of_program, pattern_states, pattern_variables, variables_of_patterns, words_of_program}
-use Rattle.xd_patterns.specs.Held.{marks_at}
+use Rattle.xd_patterns.specs.Marked.{marks_at}
 use Rattle.xd_patterns.specs.declared.compiled.CompiledProgram.{CompiledProgram}
 use Rattle.xd_points.specs.Meaning.{may_leave_out}
 use Rattle.xd_clauses.specs.declared.compiled.CompiledPatterns.{CompiledPatterns}

@@ -7,9 +7,8 @@ use Rattle.xd_syntax.specs.Words.{has_word}
 use Rattle.xd_syntax.specs.Tree.{Definitions, occurrences}
 use Rattle.xd_syntax.specs.Placed.{PlacedTree, unplaced}
 use Rattle.xd_syntax.specs.May.{MayBind}
-use Rattle.xd_auto_pairs.specs.Traces.{IsGiven, KeepsTogether, Owned}
-use Rattle.xd_patterns.specs.Marked.{Marking, IsCompiled}
-use Rattle.xd_clauses.specs.Owning.{moves_of}
+use Rattle.xd_auto.specs.Traces.{IsGiven, KeepsTogether, Owned}
+use Rattle.xd_patterns.specs.Marked.{Marking, IsCompiled, moves_of}
 
 -- in each accepting run the items of a variable stand directly one after another
 abbrev pub CompiledKeepTogether : Type 0

@@ -1,4 +1,3 @@
-pub mod Owning
 pub mod Clauses
 pub mod Cases
 pub mod Laws

@@ -3,7 +3,7 @@
 ghost use Rattle.std.specs.Prelude.{◌≡◌, ◌↔◌, ◌||◌, false, IfOk};
 ghost use Rattle.xd_doc.specs.Document.{Document};
 ghost use Rattle.xd_auto.specs.Automaton.{Automaton, Extends, IsState, accepts};
-ghost use Rattle.xd_auto_pairs.specs.Universal.{IsUniversal};
+ghost use Rattle.xd_auto.specs.Universal.{IsUniversal};
 ghost use Rattle.xd_points.specs.Meaning.{ServePoints};
 ghost use Rattle.xd_clauses.specs.Behind.{AreWaiting, any_waiting};
 ghost use Rattle.xd_clauses.specs.declared.compiled.CompiledPatterns.{CompiledPatterns as PatternsView};

@@ -4,7 +4,7 @@ ghost use Rattle.std.specs.Prelude.{◌≡◌, ◌↔◌, ◌≤◌, ◌&&◌, n
 ghost use Rattle.std.specs.List.{AllByRecursion, slice_get};
 ghost use Rattle.xd_doc.specs.Document.{Document};
 ghost use Rattle.xd_auto.specs.Automaton.{Automaton, Extends, IsState, accepts};
-ghost use Rattle.xd_auto_pairs.specs.Universal.{IsUniversal};
+ghost use Rattle.xd_auto.specs.Universal.{IsUniversal};
 ghost use Rattle.xd_empty.specs.Parts.{is_marked};
 ghost use Rattle.xd_meaning.specs.KeptFaults.{AllPaired};
 ghost use Rattle.xd_boole.specs.Meaning.{any_accepts};
@@ -25,8 +25,7 @@ ghost use Rattle.xd_clauses.specs.Compiled.{ArePatterns, AreWordsKnown, GiveAlik
 use crate::numbered::NumberedPattern;
 use crate::owner::NumberOwner;
 use std::alloc::Global;
-use xd_auto::{Auto, State};
-use xd_auto_pairs::add_universal;
+use xd_auto::{Auto, State, add_universal};
 use xd_bind::copied;
 use xd_doc::NoMemory;
 use xd_given::alike_states;

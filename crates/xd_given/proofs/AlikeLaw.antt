@@ -10,13 +10,14 @@ use Rattle.xd_auto.proofs.Closed.{same_state}
 use Rattle.xd_empty.specs.Parts.{is_marked}
 use Rattle.xd_doc.specs.Document.{Document, empty, text, element}
 use Rattle.xd_doc.specs.Classes.{class_has}
+use Rattle.xd_doc.specs.Runs.{Run, at_end, at_text, at_element, IsFree}
 use Rattle.xd_auto.specs.declared.auto.State.{State}
 use Rattle.xd_auto.specs.declared.auto.LabelMove.{LabelMove}
 use Rattle.xd_auto.specs.declared.auto.TextMove.{TextMove}
 use Rattle.xd_auto.specs.Automaton.{Automaton, moves_at}
-use Rattle.xd_auto.specs.Runs.{Run, ends, takes_text, takes_element, IsAcceptingRun}
+use Rattle.xd_auto.specs.Runs.{IsAcceptingRun}
 use Rattle.xd_auto.proofs.Anys.{IsSomeAnd-parts}
-use Rattle.xd_auto_pairs.specs.Traces.{Owned, trace_of, content_or, rest_or, text_rest_or, IsFree}
+use Rattle.xd_auto.specs.Traces.{Owned, trace_of, content_or, rest_or, text_rest_or}
 use Rattle.xd_given.specs.Alike.{IsAlike, IsAlikeFor, IsAlikeSet, IsIn, alike_label, alike_text, begins, marked_count, is_side}
 use Rattle.xd_given.specs.Owning.{GivesAlike, IsWhole, owns_first}
 
@@ -63,19 +64,19 @@ text_told b set s n m e =
     }
 
 module _ (a : Automaton) (b : Owned) (set : State → Bool) (alike : (s : State) → set s ≡ true → IsAlike a b set s) where
-  free : (d : Document) (s : State) (run : Run) → set s ≡ true → owns_first b s ≡ false → IsAcceptingRun a d s run → IsFree (trace_of a b s run)
-  free empty s ends here none h = tt
-  free empty s (takes_text n r) here none h = absurd h
-  free empty s (takes_element n c r) here none h = absurd h
-  free (text t d) s ends here none h = absurd h
-  free (text t d) s (takes_text n r) here none h =
+  free : (d : Document) (s : State) (run : Run ℕ) → set s ≡ true → owns_first b s ≡ false → IsAcceptingRun a d s run → IsFree (trace_of a b s run)
+  free empty s at_end here none h = tt
+  free empty s (at_text n r) here none h = absurd h
+  free empty s (at_element n c r) here none h = absurd h
+  free (text t d) s at_end here none h = absurd h
+  free (text t d) s (at_text n r) here none h =
       let f = IsSomeAnd-parts (slice_get (moves_at a s).texts n) (λ (m : TextMove). (class_has m.words t ≡ true) × IsAcceptingRun a d m.rest r) h in
       let k = text_told b set s n f.item ((alike s here).texts n f.item f.is) in
       (k.owned ∙ none, subst (λ (q : State). IsFree (trace_of a b q r)) (sym (ap (text_rest_or s) f.is)) (free d f.item.rest r k.rest (k.goes_on ∙ none) f.holds.1))
-  free (text t d) s (takes_element n c r) here none h = absurd h
-  free (element l e d) s ends here none h = absurd h
-  free (element l e d) s (takes_text n r) here none h = absurd h
-  free (element l e d) s (takes_element n c r) here none h =
+  free (text t d) s (at_element n c r) here none h = absurd h
+  free (element l e d) s at_end here none h = absurd h
+  free (element l e d) s (at_text n r) here none h = absurd h
+  free (element l e d) s (at_element n c r) here none h =
       let f = IsSomeAnd-parts (slice_get (moves_at a s).labels n) (λ (m : LabelMove). (class_has m.class l ≡ true) × IsAcceptingRun a e m.content c × IsAcceptingRun a d m.rest r) h in
       let k = label_told b set s n f.item ((alike s here).labels n f.item f.is) in (
         k.owned ∙ none,
@@ -83,19 +84,19 @@ module _ (a : Automaton) (b : Owned) (set : State → Bool) (alike : (s : State)
         subst (λ (q : State). IsFree (trace_of a b q r)) (sym (ap (rest_or s) f.is)) (free d f.item.rest r k.rest (k.goes_on ∙ none) f.holds.2),
       )
 
-  whole : (d : Document) (s : State) (run : Run) → set s ≡ true → owns_first b s ≡ true → IsAcceptingRun a d s run → IsWhole (trace_of a b s run)
-  whole empty s ends here first h = tt
-  whole empty s (takes_text n r) here first h = absurd h
-  whole empty s (takes_element n c r) here first h = absurd h
-  whole (text t d) s ends here first h = absurd h
-  whole (text t d) s (takes_text n r) here first h =
+  whole : (d : Document) (s : State) (run : Run ℕ) → set s ≡ true → owns_first b s ≡ true → IsAcceptingRun a d s run → IsWhole (trace_of a b s run)
+  whole empty s at_end here first h = tt
+  whole empty s (at_text n r) here first h = absurd h
+  whole empty s (at_element n c r) here first h = absurd h
+  whole (text t d) s at_end here first h = absurd h
+  whole (text t d) s (at_text n r) here first h =
       let f = IsSomeAnd-parts (slice_get (moves_at a s).texts n) (λ (m : TextMove). (class_has m.words t ≡ true) × IsAcceptingRun a d m.rest r) h in
       let k = text_told b set s n f.item ((alike s here).texts n f.item f.is) in
       (k.owned ∙ first, subst (λ (q : State). IsWhole (trace_of a b q r)) (sym (ap (text_rest_or s) f.is)) (whole d f.item.rest r k.rest (k.goes_on ∙ first) f.holds.1))
-  whole (text t d) s (takes_element n c r) here first h = absurd h
-  whole (element l e d) s ends here first h = absurd h
-  whole (element l e d) s (takes_text n r) here first h = absurd h
-  whole (element l e d) s (takes_element n c r) here first h =
+  whole (text t d) s (at_element n c r) here first h = absurd h
+  whole (element l e d) s at_end here first h = absurd h
+  whole (element l e d) s (at_text n r) here first h = absurd h
+  whole (element l e d) s (at_element n c r) here first h =
       let f = IsSomeAnd-parts (slice_get (moves_at a s).labels n) (λ (m : LabelMove). (class_has m.class l ≡ true) × IsAcceptingRun a e m.content c × IsAcceptingRun a d m.rest r) h in
       let k = label_told b set s n f.item ((alike s here).labels n f.item f.is) in (
         k.owned ∙ first,

@@ -8,12 +8,14 @@ use Rattle.xd_doc.specs.Classes.{class_has}
 use Rattle.xd_doc.proofs.Bools.{and_left, and_right}
 use Rattle.xd_doc.proofs.Joins.{join_empty-right}
 use Rattle.xd_doc.proofs.StoredLemmas.{is_empty}
+use Rattle.xd_doc.proofs.Runs.{block_free, held_free}
+use Rattle.xd_doc.specs.Runs.{Trace, at_end, at_text, at_element, held, IsFree, IsBlock, IsTogether}
 use Rattle.xd_auto.specs.declared.auto.State.{State}
 use Rattle.xd_auto.specs.declared.auto.LabelMove.{LabelMove}
 use Rattle.xd_auto.specs.declared.auto.TextMove.{TextMove}
 use Rattle.xd_auto.specs.Automaton.{Automaton, StateMoves, accepts, moves_at, takes_element, takes_word}
 use Rattle.xd_auto.proofs.Anys.{found}
-use Rattle.xd_auto_pairs.specs.Traces.{KeepsTogether, Owned, Trace, at_end, at_text, at_element, trace_of, held, IsFree, IsBlock, IsTogether}
+use Rattle.xd_auto.specs.Traces.{KeepsTogether, Owned, trace_of}
 use Rattle.xd_points.specs.declared.patterns.PatternStates.{PatternStates}
 use Rattle.xd_points.specs.declared.table.PointTable.{PointTable}
 use Rattle.xd_points.specs.Meaning.{ServePoints}
@@ -22,7 +24,7 @@ use Rattle.xd_given.specs.Blocks.{AreBlocks, is_tail, there, onward}
 use Rattle.xd_given.specs.Outline.{IsDrawing, IsOutline}
 use Rattle.xd_given.specs.Owning.{LeavesOutAlike, owns_first, point_moves}
 use Rattle.xd_given.specs.Traced.{AcceptsGivenAt, AtLeft, FreeFrom, HasRunAt, IsGivenAt, Traced}
-use Rattle.xd_given.proofs.TraceLemmas.{Fits, fits, front, front_free, front_held, front_whole, whole_block, whole_held, block_free, held_free}
+use Rattle.xd_given.proofs.TraceLemmas.{Fits, fits, front, front_free, front_held, front_whole, whole_block, whole_held}
 use Rattle.xd_given.proofs.PointTraces.{accepting, content_within, rest_within, run_of, run_on, text_within, traced, traced_means}
 use Rattle.xd_given.proofs.FreeLaw.{finishes, free_run, label_drawn, left_means, on_left, run_free, run_whole, text_drawn, true_false}
 use Rattle.xd_bind.specs.Ahead.{IsAhead, is_start, past_text, past_element, in_content}

@@ -7,7 +7,7 @@ use Rattle.std.proofs.lemmas.List.Folds.{list_any-append}
 use Rattle.xd_doc.proofs.SortedNames.{or_false}
 use Rattle.xd_doc.proofs.Bools.{and_false}
 use Rattle.xd_auto.specs.declared.auto.State.{State}
-use Rattle.xd_auto_pairs.specs.declared.kind.MoveKind.{MoveKind}
+use Rattle.xd_auto.specs.declared.kind.MoveKind.{MoveKind}
 use Rattle.xd_bind.specs.declared.tracks.Track.{Track}
 use Rattle.xd_given.specs.Buckets.{bucket_at, tracks_in}
 use Rattle.xd_bind.specs.Projection.{has_track, is_kind, is_track}

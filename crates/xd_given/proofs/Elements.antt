@@ -7,7 +7,7 @@ use Rattle.std.proofs.lemmas.Option.{slice_get-get_or}
 use Rattle.xd_doc.specs.Document.{Document}
 use Rattle.xd_auto.specs.declared.auto.State.{State}
 use Rattle.xd_auto.specs.Automaton.{Automaton, IsState, accepts}
-use Rattle.xd_auto_pairs.specs.Traces.{AcceptsGiven, Owned}
+use Rattle.xd_auto.specs.Traces.{AcceptsGiven, Owned}
 
 pub all_states : (a : Automaton) (order : List State) → ((i : ℕ) (s : State) → slice_get order i ≡ Some s → IsState a s) → All (IsState a) order
 all_states a order h k d l = h k (get_or order k d) (slice_get-get_or order k d l)

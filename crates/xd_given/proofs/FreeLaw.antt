@@ -6,11 +6,12 @@ use Rattle.std.proofs.lemmas.Bool.{and_from}
 use Rattle.xd_doc.specs.Document.{Document, empty, text, element, is_proper}
 use Rattle.xd_doc.specs.Stored.{document_at}
 use Rattle.xd_doc.proofs.Bools.{and_left, and_right}
+use Rattle.xd_doc.specs.Runs.{Trace, at_end, at_text, at_element, IsFree}
 use Rattle.xd_auto.specs.declared.auto.State.{State}
 use Rattle.xd_auto.specs.declared.auto.LabelMove.{LabelMove}
 use Rattle.xd_auto.specs.declared.auto.TextMove.{TextMove}
 use Rattle.xd_auto.specs.Automaton.{Automaton, IsState, StateMoves, accepts, moves_at}
-use Rattle.xd_auto_pairs.specs.Traces.{Owned, Trace, at_end, at_text, at_element, trace_of, IsFree}
+use Rattle.xd_auto.specs.Traces.{Owned, trace_of}
 use Rattle.xd_least.specs.Least.{Knows, known_of}
 use Rattle.xd_least.specs.declared.document.LeastDocument.{LeastDocument}
 use Rattle.xd_points.specs.declared.patterns.PatternStates.{PatternStates}

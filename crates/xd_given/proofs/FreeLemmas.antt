@@ -6,7 +6,7 @@ use Rattle.xd_doc.proofs.Bools.{and_left, and_right}
 use Rattle.xd_auto.specs.declared.auto.State.{State}
 use Rattle.xd_auto.specs.Automaton.{Automaton, IsState}
 use Rattle.xd_auto.proofs.Closed.{same_state}
-use Rattle.xd_auto_pairs.specs.Traces.{Owned}
+use Rattle.xd_auto.specs.Traces.{Owned}
 use Rattle.xd_empty.specs.Parts.{is_marked}
 use Rattle.xd_given.specs.Free.{AreSound, CanFinish, GoesOn, at_once, by_element, by_text, label_on, text_on}
 use Rattle.xd_given.proofs.AlikeLaw.{marked_within}

@@ -9,7 +9,7 @@ use Rattle.xd_auto.specs.declared.auto.State.{State}
 use Rattle.xd_auto.specs.Automaton.{Automaton, Extends, IsClosed, IsState, LeadsBelow, accepts, moves_at}
 use Rattle.xd_auto.proofs.Closed.{moves_at-closed}
 use Rattle.xd_auto.proofs.ExtendsLemmas.{keeps}
-use Rattle.xd_auto_pairs.specs.Traces.{KeepsTogether, Owned}
+use Rattle.xd_auto.specs.Traces.{KeepsTogether, Owned}
 use Rattle.xd_least.specs.Least.{Knows, known_of}
 use Rattle.xd_least.specs.declared.document.LeastDocument.{LeastDocument}
 use Rattle.xd_empty.specs.Parts.{is_marked}

@@ -5,12 +5,13 @@ use Rattle.std.proofs.lemmas.Option.{slice_get-get_or}
 use Rattle.std.proofs.lemmas.Bool.Decides.{nat_tests}
 use Rattle.xd_doc.specs.Document.{Document, empty, text, element}
 use Rattle.xd_doc.proofs.Bools.{and_left, and_right}
+use Rattle.xd_doc.specs.Runs.{Run, Trace, at_end, at_text, at_element}
 use Rattle.xd_auto.specs.declared.auto.State.{State}
 use Rattle.xd_auto.specs.declared.auto.LabelMove.{LabelMove}
 use Rattle.xd_auto.specs.declared.auto.TextMove.{TextMove}
 use Rattle.xd_auto.specs.Automaton.{Automaton, accepts, moves_at}
-use Rattle.xd_auto.specs.Runs.{Run, ends, takes_text, takes_element, IsAcceptingRun}
-use Rattle.xd_auto_pairs.specs.Traces.{Owned, Trace, at_end, at_text, at_element, trace_of, after_text, after_element, in_element, content_or, rest_or, text_rest_or}
+use Rattle.xd_auto.specs.Runs.{IsAcceptingRun}
+use Rattle.xd_auto.specs.Traces.{Owned, trace_of, after_text, after_element, in_element, content_or, rest_or, text_rest_or}
 use Rattle.xd_points.specs.declared.patterns.PatternStates.{PatternStates}
 use Rattle.xd_points.specs.declared.table.PointTable.{PointTable}
 use Rattle.xd_points.specs.Following.{Follows, IsRunAt}
@@ -78,13 +79,13 @@ module _ (a : Automaton) (p : PatternStates) (t : PointTable) (b : Owned) (is : 
       let origin : label_origin t s k ≡ n = ap (λ o. number_or (slice_get (labels_in o) k)) (row_there s lt) ∙ ap number_or e in
       ap (λ v. v && b.element (pattern_of t s) (label_origin t s k)) (counted s lt) ∙ ap (b.element (pattern_of t s)) origin
 
-  follows_traced : (d : Document) (s : State) (run : Run) → s.number < point_count t → Follows t.first a p t.points t.rows.items d s.number run → Traced a p t b d s (trace_of p.auto b (pattern_of t s) run)
-  follows_traced empty s ends lt h = h.0
-  follows_traced empty s (takes_text n r) lt h = absurd h.1
-  follows_traced empty s (takes_element n k r) lt h = absurd h.1
-  follows_traced (text c d) s ends lt h = absurd h
-  follows_traced (text c d) s (takes_text n r) lt (inl h) = inl (record { left = h.0; has = record { run = takes_text n r; at = h.1; is = refl } })
-  follows_traced (text c d) s (takes_text n r) lt (inr h) =
+  follows_traced : (d : Document) (s : State) (run : Run ℕ) → s.number < point_count t → Follows t.first a p t.points t.rows.items d s.number run → Traced a p t b d s (trace_of p.auto b (pattern_of t s) run)
+  follows_traced empty s at_end lt h = h.0
+  follows_traced empty s (at_text n r) lt h = absurd h.1
+  follows_traced empty s (at_element n k r) lt h = absurd h.1
+  follows_traced (text c d) s at_end lt h = absurd h
+  follows_traced (text c d) s (at_text n r) lt (inl h) = inl (record { left = h.0; has = record { run = at_text n r; at = h.1; is = refl } })
+  follows_traced (text c d) s (at_text n r) lt (inr h) =
       let m = h.2 in
       let step = zip_there (IsTextStep p.auto (pattern_of t s) t.points) (moves_at (points_of t) s).texts (row_at t.rows.items s.number).texts h.1 n m (has s lt h.0).texts.steps h.3 h.4 in
       let to : after_text p.auto (pattern_of t s) n ≡ pattern_of t m.rest = ap (text_rest_or (pattern_of t s)) step.there ∙ sym step.leads.0.pattern_is in
@@ -99,11 +100,11 @@ module _ (a : Automaton) (p : PatternStates) (t : PointTable) (b : Owned) (is : 
           rest = subst (λ (q : State). Traced a p t b d m.rest (trace_of p.auto b q r)) (sym to) (follows_traced d m.rest r step.leads.0.within h.6);
         },
       )
-  follows_traced (text c d) s (takes_element n k r) lt h = absurd h
-  follows_traced (element l c d) s ends lt h = absurd h
-  follows_traced (element l c d) s (takes_text n r) lt h = absurd h
-  follows_traced (element l c d) s (takes_element n k r) lt (inl h) = inl (record { left = h.0; has = record { run = takes_element n k r; at = h.1; is = refl } })
-  follows_traced (element l c d) s (takes_element n k r) lt (inr h) =
+  follows_traced (text c d) s (at_element n k r) lt h = absurd h
+  follows_traced (element l c d) s at_end lt h = absurd h
+  follows_traced (element l c d) s (at_text n r) lt h = absurd h
+  follows_traced (element l c d) s (at_element n k r) lt (inl h) = inl (record { left = h.0; has = record { run = at_element n k r; at = h.1; is = refl } })
+  follows_traced (element l c d) s (at_element n k r) lt (inr h) =
       let m = h.2 in
       let step = zip_there (IsLabelStep p.auto (pattern_of t s) t.points) (moves_at (points_of t) s).labels (row_at t.rows.items s.number).labels h.1 n m (has s lt h.0).labels.steps h.3 h.4 in
       let into : in_element p.auto (pattern_of t s) n ≡ pattern_of t m.content = ap (content_or (pattern_of t s)) step.there ∙ sym step.leads.0.pattern_is in
@@ -123,11 +124,11 @@ module _ (a : Automaton) (p : PatternStates) (t : PointTable) (b : Owned) (is : 
 
   -- a run through the points with the trace
   record Followed (d : Document) (s : State) (trace : Trace) : Type 0 where
-    run : Run
+    run : Run ℕ
     follows : Follows t.first a p t.points t.rows.items d s.number run
     told : trace_of p.auto b (pattern_of t s) run ≡ trace
 
-  back : (d : Document) (s : State) (run : Run) → s.number < point_count t → IsRunAt t.first a p t.points s.number d run → Follows t.first a p t.points t.rows.items d s.number run
+  back : (d : Document) (s : State) (run : Run ℕ) → s.number < point_count t → IsRunAt t.first a p t.points s.number d run → Follows t.first a p t.points t.rows.items d s.number run
   back d s run lt h = (follows_all_runs t.first a p t.points t.rows.items is.expanded is.every d s.number run lt).1 h
 
   followed_run : (d : Document) (s : State) (trace : Trace) → s.number < point_count t → HasRunAt a p t b d s trace → Followed d s trace
@@ -136,7 +137,7 @@ module _ (a : Automaton) (p : PatternStates) (t : PointTable) (b : Owned) (is : 
   followed : (d : Document) (s : State) (trace : Trace) → s.number < point_count t → Traced a p t b d s trace → Followed d s trace
   followed empty s at_end lt h =
       let both = and_right (accepts a empty (point_at t.points.points.items s.number).left) _ h in
-      record { run = ends; follows = (h, and_left (accepts p.auto empty (pattern_of t s)) _ both); told = refl }
+      record { run = at_end; follows = (h, and_left (accepts p.auto empty (pattern_of t s)) _ both); told = refl }
   followed empty s (at_text own r) lt h = absurd h
   followed empty s (at_element own k r) lt h = absurd h
   followed (text c d) s at_end lt h = absurd h
@@ -148,7 +149,7 @@ module _ (a : Automaton) (p : PatternStates) (t : PointTable) (b : Owned) (is : 
       let rest = followed d h.step.rest r step.leads.0.within h.rest in
       let whose : b.text (pattern_of t s) f.number ≡ own = sym (text_owned s h.number f.number lt f.there) ∙ h.owned in
       record {
-        run = takes_text f.number rest.run;
+        run = at_text f.number rest.run;
         follows = inr (yet, h.number, h.step, h.there, f.there, h.has, rest.follows);
         told = ap (λ v. at_text v (trace_of p.auto b (after_text p.auto (pattern_of t s) f.number) rest.run)) whose
             ∙ ap (λ (q : State). at_text own (trace_of p.auto b q rest.run)) to ∙ ap (at_text own) rest.told;
@@ -168,7 +169,7 @@ module _ (a : Automaton) (p : PatternStates) (t : PointTable) (b : Owned) (is : 
       let in_run : Trace = trace_of p.auto b (in_element p.auto (pattern_of t s) f.number) inside.run in
       let to_run : Trace = trace_of p.auto b (after_element p.auto (pattern_of t s) f.number) rest.run in
       record {
-        run = takes_element f.number inside.run rest.run;
+        run = at_element f.number inside.run rest.run;
         follows = inr (yet, h.number, h.step, h.there, f.there, h.has, inside.follows, rest.follows);
         told = ap (λ v. at_element v in_run to_run) whose
             ∙ ap (λ (w : Trace). at_element own w to_run) (ap (λ (q : State). trace_of p.auto b q inside.run) into ∙ inside.told)
@@ -188,7 +189,7 @@ module _ (a : Automaton) (p : PatternStates) (t : PointTable) (b : Owned) (is : 
   traced_means d s trace lt h = (run_of d s trace lt h).at.0
 
   -- a point has a run on what it means
-  pub run_on : (d : Document) (s : State) → point_means a p t s d ≡ true → (run : Run) × IsRunAt t.first a p t.points s.number d run
+  pub run_on : (d : Document) (s : State) → point_means a p t s d ≡ true → (run : Run ℕ) × IsRunAt t.first a p t.points s.number d run
   run_on d s h =
       let both = and_right (accepts a d (point_at t.points.points.items s.number).left) _ h in
       let r = run_by t.first p.auto d (pattern_of t s) (and_left (accepts p.auto d (pattern_of t s)) _ both) in

@@ -5,10 +5,10 @@ use Rattle.xd_doc.specs.Document.{Document}
 use Rattle.xd_auto.specs.declared.auto.State.{State}
 use Rattle.xd_auto.specs.Automaton.{Automaton, accepts}
 use Rattle.xd_auto.proofs.RunLaw.{runs_law}
-use Rattle.xd_auto_pairs.specs.Traces.{AcceptsGiven, IsGiven, Owned}
+use Rattle.xd_auto.specs.Traces.{AcceptsGiven, IsGiven, Owned}
 use Rattle.xd_bind.specs.declared.tracks.Given.{Given}
 use Rattle.xd_bind.specs.Projection.{AreGivens}
-use Rattle.xd_bind.proofs.SameOwned.{SameOwned, given_same}
+use Rattle.xd_auto.proofs.SameMoves.{SameMoves, given_same}
 use Rattle.xd_points.specs.declared.patterns.PatternStates.{PatternStates}
 use Rattle.xd_points.specs.Tables.{takes_alone}
 use Rattle.xd_given.specs.Given.{AcceptsGivenAlone, AreGivensAlone}
@@ -32,7 +32,7 @@ given_whole a p b left pattern made state all h e =
 
 -- of all variables
 pub givens_whole : (a own : Automaton) (p : PatternStates) (one two : ℕ → Owned) (left start : State) (vs ws : List (List ℕ)) (made : Automaton) (givens : List Given) → ((d : Document) → accepts a d left ≡ true)
-    → p.auto ≡ own → ((x : ℕ) → SameOwned (one x) (two x)) → vs ≡ ws → AreGivensAlone a p one left start [] vs made givens → AreGivens own two start ws made givens
+    → p.auto ≡ own → ((x : ℕ) → SameMoves (one x) (two x)) → vs ≡ ws → AreGivensAlone a p one left start [] vs made givens → AreGivens own two start ws made givens
 givens_whole a own p one two left start vs ws made givens all is same f h = record {
   count = h.count ∙ ap length f;
   each = λ x d lt.

@@ -4,9 +4,9 @@ use Rattle.xd_doc.specs.Document.{Document, is_proper}
 use Rattle.xd_auto.specs.declared.auto.State.{State}
 use Rattle.xd_auto.specs.Automaton.{Automaton, Extends, IsClosed, accepts}
 use Rattle.xd_auto.proofs.ExtendsLemmas.{keeps}
-use Rattle.xd_auto.specs.Runs.{Run}
-use Rattle.xd_auto_pairs.specs.Traces.{Owned, held, trace_of}
+use Rattle.xd_auto.specs.Traces.{Owned, trace_of}
 use Rattle.xd_doc.proofs.StoredLemmas.{Keeps-same}
+use Rattle.xd_doc.specs.Runs.{Run, held}
 use Rattle.xd_least.specs.declared.document.LeastDocument.{LeastDocument}
 use Rattle.xd_least.proofs.KnownLemmas.{stays_known}
 use Rattle.xd_bind.specs.declared.tracks.Given.{Given}
@@ -69,7 +69,7 @@ module _ (a now : Automaton) (p : PatternStates) (t : PointTable) (start left : 
   is_given : (g : IsGivenAt now p t b start e) → held g.document (trace_of p.auto b (pattern_of t start) g.has.run) ≡ e
   is_given g = ap (held g.document) g.has.is ∙ g.gives
 
-  by_run : (first : Bool) → of_first_runs t ≡ first → (d : Document) (run : Run) → (is_proper e ≡ true → is_proper d ≡ true) → IsRunBy first p.auto d (pattern_of t start) run
+  by_run : (first : Bool) → of_first_runs t ≡ first → (d : Document) (run : Run ℕ) → (is_proper e ≡ true → is_proper d ≡ true) → IsRunBy first p.auto d (pattern_of t start) run
       → held d (trace_of p.auto b (pattern_of t start) run) ≡ e → takes_alone a p left (pattern_of t start) rights d ≡ true → IsGivenAt now p t b start e
   by_run first kind d run proper by given only = record {
     document = d;

@@ -1,32 +1,18 @@
 -- Traces that are free, whole or blocks, and what they hold.
-use Rattle.std.proofs.Common.{◌≡◌, inl, inr, true, false, cond, refl, sym, ◌∙◌}
+use Rattle.std.proofs.Common.{◌≡◌, ℕ, inl, inr, true, false, cond, refl, sym, ◌∙◌}
 use Rattle.std.specs.List.{slice_get}
 use Rattle.xd_doc.specs.Document.{Document, empty, text, element}
 use Rattle.xd_doc.specs.Classes.{class_has}
+use Rattle.xd_doc.specs.Runs.{Run, Trace, at_end, at_text, at_element, held, IsFree, IsBlock}
+use Rattle.xd_doc.proofs.Runs.{held_free}
 use Rattle.xd_auto.specs.declared.auto.State.{State}
 use Rattle.xd_auto.specs.declared.auto.LabelMove.{LabelMove}
 use Rattle.xd_auto.specs.declared.auto.TextMove.{TextMove}
 use Rattle.xd_auto.specs.Automaton.{Automaton, moves_at}
-use Rattle.xd_auto.specs.Runs.{Run, ends, takes_text, takes_element, IsAcceptingRun}
-use Rattle.xd_auto_pairs.specs.Traces.{Owned, Trace, at_end, at_text, at_element, trace_of, after_text, after_element, in_element, held, IsFree, IsBlock}
+use Rattle.xd_auto.specs.Runs.{IsAcceptingRun}
+use Rattle.xd_auto.specs.Traces.{Owned, trace_of, after_text, after_element, in_element}
 use Rattle.xd_auto.proofs.Anys.{IsSomeAnd-parts}
 use Rattle.xd_given.specs.Owning.{IsWhole}
-
--- a free trace gives the variable nothing
-pub held_free : (d : Document) (t : Trace) → IsFree t → held d t ≡ empty
-held_free empty t h = refl
-held_free (text c d) at_end h = refl
-held_free (text c d) (at_text own r) h = rw (h.0, held_free d r h.1) refl
-held_free (text c d) (at_element own k r) h = refl
-held_free (element l c d) at_end h = refl
-held_free (element l c d) (at_text own r) h = refl
-held_free (element l c d) (at_element own k r) h = rw (h.0, held_free c k h.1, held_free d r h.2) refl
-
--- a free trace is a block
-pub block_free : (t : Trace) → IsFree t → IsBlock t
-block_free at_end h = tt
-block_free (at_text own r) h = inr h
-block_free (at_element own k r) h = inr h
 
 -- the trace is one of the document
 abbrev pub Fits : Document → Trace → Type 0
@@ -41,18 +27,18 @@ Fits (element l c d) (at_text own r) = ⊥
 Fits (element l c d) (at_element own k r) = Fits c k × Fits d r
 
 -- an accepting run's is
-pub fits : (a : Automaton) (b : Owned) (d : Document) (s : State) (run : Run) (q : State) → IsAcceptingRun a d s run → Fits d (trace_of a b q run)
-fits a b empty s ends q h = tt
-fits a b empty s (takes_text n r) q h = absurd h
-fits a b empty s (takes_element n c r) q h = absurd h
-fits a b (text t d) s ends q h = absurd h
-fits a b (text t d) s (takes_text n r) q h =
+pub fits : (a : Automaton) (b : Owned) (d : Document) (s : State) (run : Run ℕ) (q : State) → IsAcceptingRun a d s run → Fits d (trace_of a b q run)
+fits a b empty s at_end q h = tt
+fits a b empty s (at_text n r) q h = absurd h
+fits a b empty s (at_element n c r) q h = absurd h
+fits a b (text t d) s at_end q h = absurd h
+fits a b (text t d) s (at_text n r) q h =
     let f = IsSomeAnd-parts (slice_get (moves_at a s).texts n) (λ (m : TextMove). (class_has m.words t ≡ true) × IsAcceptingRun a d m.rest r) h in
     fits a b d f.item.rest r (after_text a q n) f.holds.1
-fits a b (text t d) s (takes_element n c r) q h = absurd h
-fits a b (element l k d) s ends q h = absurd h
-fits a b (element l k d) s (takes_text n r) q h = absurd h
-fits a b (element l k d) s (takes_element n c r) q h =
+fits a b (text t d) s (at_element n c r) q h = absurd h
+fits a b (element l k d) s at_end q h = absurd h
+fits a b (element l k d) s (at_text n r) q h = absurd h
+fits a b (element l k d) s (at_element n c r) q h =
     let f = IsSomeAnd-parts (slice_get (moves_at a s).labels n) (λ (m : LabelMove). (class_has m.class l ≡ true) × IsAcceptingRun a k m.content c × IsAcceptingRun a d m.rest r) h in
     (fits a b k f.item.content c (in_element a q n) f.holds.1, fits a b d f.item.rest r (after_element a q n) f.holds.2)
 

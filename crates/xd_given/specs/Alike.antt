@@ -4,7 +4,7 @@ use Rattle.xd_auto.specs.declared.auto.State.{State}
 use Rattle.xd_auto.specs.declared.auto.LabelMove.{LabelMove}
 use Rattle.xd_auto.specs.declared.auto.TextMove.{TextMove}
 use Rattle.xd_auto.specs.Automaton.{Automaton, moves_at}
-use Rattle.xd_auto_pairs.specs.Traces.{Owned}
+use Rattle.xd_auto.specs.Traces.{Owned}
 use Rattle.xd_given.specs.Owning.{owns_first}
 
 -- whether moves belong to the variable, or don't

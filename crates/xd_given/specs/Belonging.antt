@@ -4,7 +4,7 @@ use Rattle.std.specs.List.{Contains}
 use Rattle.xd_auto.specs.declared.auto.State.{State}
 use Rattle.xd_auto.specs.declared.auto.LabelMove.{LabelMove}
 use Rattle.xd_auto.specs.declared.auto.TextMove.{TextMove}
-use Rattle.xd_auto_pairs.specs.Traces.{Owned}
+use Rattle.xd_auto.specs.Traces.{Owned}
 use Rattle.xd_bind.specs.Owning.{is_owned}
 use Rattle.xd_given.specs.declared.alike.Moves.{Moves}
 use Rattle.xd_given.specs.declared.alike.Moves.TheVariants.{First, One, Nothing}

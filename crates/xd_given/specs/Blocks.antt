@@ -3,7 +3,7 @@ use Rattle.std.specs.Prelude.{◌≡◌, ℕ, ◌+◌, ◌<◌, ◌≤◌, ◌&&
 use Rattle.xd_doc.specs.Document.{Document}
 use Rattle.xd_auto.specs.declared.auto.State.{State}
 use Rattle.xd_auto.specs.Automaton.{Automaton, IsState, accepts, moves_at}
-use Rattle.xd_auto_pairs.specs.Traces.{Owned}
+use Rattle.xd_auto.specs.Traces.{Owned}
 use Rattle.xd_points.specs.declared.patterns.PatternStates.{PatternStates}
 use Rattle.xd_points.specs.declared.table.PointTable.{PointTable}
 use Rattle.xd_points.specs.Tables.{is_left, left_of, pattern_of, point_count, point_means}

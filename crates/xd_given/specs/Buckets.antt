@@ -2,8 +2,8 @@
 use Rattle.std.specs.Prelude.{ℕ, nat_eq, List, [], Option, Some, None, Vec, slice_get}
 use Rattle.std.specs.HashMap.{HashMap, get}
 use Rattle.xd_auto.specs.declared.auto.State.{State}
-use Rattle.xd_auto_pairs.specs.declared.kind.MoveKind.TheVariants.{Label, Text}
-use Rattle.xd_auto_pairs.specs.Traces.{Owned}
+use Rattle.xd_auto.specs.declared.kind.MoveKind.TheVariants.{Label, Text}
+use Rattle.xd_auto.specs.Traces.{Owned}
 use Rattle.xd_bind.specs.declared.tracks.Track.{Track}
 use Rattle.xd_bind.specs.Projection.{has_track}
 

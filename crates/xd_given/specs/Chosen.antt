@@ -4,7 +4,7 @@ use Rattle.xd_auto.specs.declared.auto.State.{State}
 use Rattle.xd_auto.specs.declared.auto.LabelMove.{LabelMove}
 use Rattle.xd_auto.specs.declared.auto.TextMove.{TextMove}
 use Rattle.xd_auto.specs.Automaton.{Automaton, StateMoves, moves_at}
-use Rattle.xd_auto_pairs.specs.Traces.{Owned}
+use Rattle.xd_auto.specs.Traces.{Owned}
 
 -- the elements whose numbers pass the test
 abbrev pub chosen : {X : Type 0} → (ℕ → Bool) → List X → List X

@@ -1,10 +1,10 @@
 -- What variables are given on documents that a state accepts, and further states refuse.
 use Rattle.std.specs.Prelude.{◌≡◌, ◌↔◌, ℕ, ◌<◌, Bool, true, false, List, length, slice_get, slice_index_or, Some}
 use Rattle.xd_doc.specs.Document.{Document, is_proper}
+use Rattle.xd_doc.specs.Runs.{Run, held}
 use Rattle.xd_auto.specs.declared.auto.State.{State}
 use Rattle.xd_auto.specs.Automaton.{Automaton, IsState, accepts}
-use Rattle.xd_auto.specs.Runs.{Run}
-use Rattle.xd_auto_pairs.specs.Traces.{Owned, IsGiven, held, trace_of}
+use Rattle.xd_auto.specs.Traces.{Owned, IsGiven, trace_of}
 use Rattle.xd_bind.specs.declared.tracks.Given.{Given}
 use Rattle.xd_points.specs.declared.patterns.PatternStates.{PatternStates}
 use Rattle.xd_points.specs.FirstRuns.{IsFirstRun}
@@ -37,7 +37,7 @@ pub record IsGivenAlone (a : Automaton) (p : PatternStates) (b : Owned) (left pa
 pub record IsFirstGivenAlone (a : Automaton) (p : PatternStates) (b : Owned) (left pattern : State) (rights : List State) (e : Document) : Type 0 where
   pub document : Document
   pub proper : is_proper e ≡ true → is_proper document ≡ true
-  pub run : Run
+  pub run : Run ℕ
   pub first : IsFirstRun p.auto document pattern run
   pub gives : held document (trace_of p.auto b pattern run) ≡ e
   pub alone : takes_alone a p left pattern rights document ≡ true

@@ -4,7 +4,7 @@ use Rattle.xd_auto.specs.declared.auto.State.{State}
 use Rattle.xd_auto.specs.Automaton.{Automaton, moves_at, no_moves}
 use Rattle.xd_least.specs.Least.{known_of}
 use Rattle.xd_least.specs.declared.document.LeastDocument.{LeastDocument}
-use Rattle.xd_auto_pairs.specs.Traces.{Owned}
+use Rattle.xd_auto.specs.Traces.{Owned}
 use Rattle.xd_points.specs.declared.patterns.PatternStates.{PatternStates}
 use Rattle.xd_points.specs.declared.table.PointTable.{PointTable}
 use Rattle.xd_points.specs.Tables.{is_left, left_of, pattern_of, point_count, points_of}

@@ -1,11 +1,12 @@
 -- Which moves of points belong to a variable, and states that give a variable nothing, or all that
 -- they take.
-use Rattle.std.specs.Prelude.{nat_lt, ◌≡◌, ◌&&◌, ◌||◌, Bool, true, false}
+use Rattle.std.specs.Prelude.{nat_lt, ◌≡◌, ℕ, ◌&&◌, ◌||◌, Bool, true, false}
 use Rattle.xd_doc.specs.Document.{Document}
+use Rattle.xd_doc.specs.Runs.{Run, Trace, at_end, at_text, at_element, IsFree}
 use Rattle.xd_auto.specs.declared.auto.State.{State}
 use Rattle.xd_auto.specs.Automaton.{Automaton}
-use Rattle.xd_auto.specs.Runs.{Run, IsAcceptingRun}
-use Rattle.xd_auto_pairs.specs.Traces.{Owned, Trace, at_end, at_text, at_element, IsFree, trace_of}
+use Rattle.xd_auto.specs.Runs.{IsAcceptingRun}
+use Rattle.xd_auto.specs.Traces.{Owned, trace_of}
 use Rattle.xd_points.specs.declared.patterns.PatternStates.{PatternStates}
 use Rattle.xd_points.specs.declared.table.PointTable.{PointTable}
 use Rattle.xd_points.specs.Meaning.{may_leave_out}
@@ -31,8 +32,8 @@ IsWhole (at_element own k r) = (own ≡ true) × IsFree k × IsWhole r
 -- Runs from the state give the variable all that they take, where a first move belongs to it; and
 -- else nothing.
 pub record GivesAlike (a : Automaton) (b : Owned) (s : State) : Type 0 where
-  pub all : owns_first b s ≡ true → (d : Document) (run : Run) → IsAcceptingRun a d s run → IsWhole (trace_of a b s run)
-  pub none : owns_first b s ≡ false → (d : Document) (run : Run) → IsAcceptingRun a d s run → IsFree (trace_of a b s run)
+  pub all : owns_first b s ≡ true → (d : Document) (run : Run ℕ) → IsAcceptingRun a d s run → IsWhole (trace_of a b s run)
+  pub none : owns_first b s ≡ false → (d : Document) (run : Run ℕ) → IsAcceptingRun a d s run → IsFree (trace_of a b s run)
 
 -- each state that may be left out does so
 abbrev pub LeavesOutAlike : PatternStates → Owned → Type 0

@@ -2,12 +2,12 @@
 use Rattle.std.specs.Prelude.{◌≡◌, ◌⊎◌, ℕ, Bool, true, false, List, slice_get, Some}
 use Rattle.xd_doc.specs.Document.{Document, empty, text, element, is_proper}
 use Rattle.xd_doc.specs.Classes.{class_has}
+use Rattle.xd_doc.specs.Runs.{Run, Trace, at_end, at_text, at_element, held, IsFree}
 use Rattle.xd_auto.specs.declared.auto.State.{State}
 use Rattle.xd_auto.specs.declared.auto.LabelMove.{LabelMove}
 use Rattle.xd_auto.specs.declared.auto.TextMove.{TextMove}
 use Rattle.xd_auto.specs.Automaton.{Automaton, moves_at}
-use Rattle.xd_auto.specs.Runs.{Run}
-use Rattle.xd_auto_pairs.specs.Traces.{Owned, Trace, at_end, at_text, at_element, IsFree, held, trace_of}
+use Rattle.xd_auto.specs.Traces.{Owned, trace_of}
 use Rattle.xd_bind.specs.declared.tracks.Given.{Given}
 use Rattle.xd_points.specs.declared.patterns.PatternStates.{PatternStates}
 use Rattle.xd_points.specs.declared.table.PointTable.{PointTable}
@@ -37,7 +37,7 @@ pub record ElementStep (a : Automaton) (b : Owned) (s : State) (own : Bool) (l :
 -- the point means the document, and a run of its pattern's state over it, of the kind that the table
 -- is for, has the trace
 pub record HasRunAt (a : Automaton) (p : PatternStates) (t : PointTable) (b : Owned) (d : Document) (s : State) (trace : Trace) : Type 0 where
-  pub run : Run
+  pub run : Run ℕ
   pub at : IsRunAt t.first a p t.points s.number d run
   pub is : trace_of p.auto b (pattern_of t s) run ≡ trace
 

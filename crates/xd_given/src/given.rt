@@ -6,7 +6,7 @@ ghost use Rattle.xd_doc.specs.Document.{Document};
 ghost use Rattle.xd_doc.specs.StoreNodes.{Keeps};
 ghost use Rattle.xd_auto.specs.declared.auto.State.{State as StateView};
 ghost use Rattle.xd_auto.specs.Automaton.{Extends, IsState, state_number};
-ghost use Rattle.xd_auto_pairs.specs.Traces.{KeepsTogether};
+ghost use Rattle.xd_auto.specs.Traces.{KeepsTogether};
 ghost use Rattle.xd_least.specs.Least.{Knows};
 ghost use Rattle.xd_points.specs.declared.patterns.PatternStates.{PatternStates as PatternsView};
 ghost use Rattle.xd_points.specs.Meaning.{ServePoints};
@@ -167,6 +167,9 @@ fn given_alone<H: Holds>(
     let Some(_document) = known.document(place) else {
         return Ok(None);
     };
+    if variables.is_empty() {
+        return Ok(Some(Vec::new(alloc)));
+    }
     known.stays_known();
     let drawing = draw(alloc, &table, patterns)?;
     let places = places_of(alloc, auto, &table)?;

@@ -4,7 +4,7 @@ ghost use Rattle.std.specs.Prelude.{◌≡◌, ℕ, ◌<◌, ◌++◌, ◌∷◌
 ghost use Rattle.std.specs.List.{All};
 ghost use Rattle.xd_auto.specs.declared.auto.State.{State};
 ghost use Rattle.xd_auto.specs.Automaton.{IsState, state_number};
-ghost use Rattle.xd_auto_pairs.specs.declared.kind.MoveKind.{MoveKind};
+ghost use Rattle.xd_auto.specs.declared.kind.MoveKind.{MoveKind};
 ghost use Rattle.xd_bind.specs.Owning.{is_owned};
 ghost use Rattle.xd_bind.specs.Projection.{has_track, is_track};
 ghost use Rattle.xd_given.specs.Buckets.{bucket_at, tracks_at};

@@ -3,8 +3,11 @@ use Rattle.std.proofs.Common.{ℕ, ◌≡◌, ◌⊎◌, ◌+◌, ◌<◌, Bool,
 use Rattle.std.proofs.lemmas.List.{get_or-set_same, get_or-set_other, get_or_past, get_or_read, length_push}
 use Rattle.std.proofs.lemmas.Bool.{cases_eq, cases_lt}
 use Rattle.xd_auto.specs.declared.auto.State.{State}
-use Rattle.xd_auto.specs.Automaton.{Automaton, IsState, state_number}
+use Rattle.xd_auto.specs.Automaton.{Automaton, IsState, moves_at, state_number}
 use Rattle.xd_auto.proofs.Closed.{state_of_number}
+use Rattle.xd_auto.specs.Leading.{label_ends, text_ends}
+use Rattle.xd_auto.specs.declared.leading.Ends.{Ends}
+use Rattle.xd_auto.proofs.EndsLemmas.{ends_are}
 use Rattle.xd_syntax.specs.Ways.{Among}
 use Rattle.xd_sound.specs.Emptiness.{is_marked}
 use Rattle.xd_sound.specs.Graph.{HasEdge, successors}
@@ -12,7 +15,7 @@ use Rattle.xd_syntax.proofs.Members.{mem_append, append_left, append_right}
 use Rattle.xd_sound.proofs.EmptyLemmas.{among_one, unmarked_push}
 use Rattle.xd_sound.proofs.Graphs.{edge_made, edges_kept, with_edge}
 use Rattle.xd_patterns.specs.Marked.{Marking}
-use Rattle.xd_match.specs.Tails.{AreBehind, AreTails, IsEven, IsSpread, LeadsFrom, is_mixed}
+use Rattle.xd_match.specs.Tails.{AllLead, AreBehind, AreTails, HasEdgeTo, IsEven, IsSpread, LeadsFrom, is_mixed}
 
 -- what holds of each of the first members, and of the next one
 pub each_more : {M : Type 0} (ms : List M) (k : ℕ) (m : M) (P : ℕ → M → Type 0) → k < length ms → m ≡ get_or ms k m → ((n : ℕ) (e : M) → n < k → P n (get_or ms n e)) → P k m →
@@ -29,12 +32,11 @@ edge_kept g h from to e lt v w m = subst (λ x. HasEdge x v w) (sym e) (edges_ke
 pub edge_there : (g h : List (List ℕ)) (from to : ℕ) → h ≡ with_edge g from to → from < length g → HasEdge h from to
 edge_there g h from to e lt = subst (λ x. HasEdge x from to) (sym e) (edge_made g from to lt)
 
-pub leads_kept : (a : Automaton) (g h : List (List ℕ)) (s : State) → ((v w : ℕ) → HasEdge g v w → HasEdge h v w) →
-    LeadsFrom a (λ t. HasEdge g (state_number t) (state_number s)) s → LeadsFrom a (λ t. HasEdge h (state_number t) (state_number s)) s
-leads_kept a g h s k e = record {
-  texts = λ n m lt. k _ _ (e.texts n m lt);
-  labels = λ n m lt. (k _ _ (e.labels n m lt).0, k _ _ (e.labels n m lt).1);
-}
+pub all_lead : {M : Type 0} (ends : M → Ends) (R Q : State → Type 0) → ((s : State) → R s → Q s) → (moves : List M) (count : ℕ) → AllLead ends R moves count → AllLead ends Q moves count
+all_lead ends R Q f moves count h n m lt = ends_are R Q f (ends (get_or moves n m)) (h n m lt)
+
+pub lead_from : (a : Automaton) (R Q : State → Type 0) → ((s : State) → R s → Q s) → (s : State) → LeadsFrom a R s → LeadsFrom a Q s
+lead_from a R Q f s e = record { texts = all_lead text_ends R Q f (moves_at a s).texts _ e.texts; labels = all_lead label_ends R Q f (moves_at a s).labels _ e.labels }
 
 pub spread_one : (g : List (List ℕ)) (seeds : List ℕ) (mixed : List Bool) (waiting before : List ℕ) (i : ℕ) → before ≡ waiting ++ i ∷ [] → IsSpread g seeds mixed before → i < length g
 spread_one g seeds mixed waiting before i e s = s.within i (subst (Among i) (sym e) (among_one i waiting))
@@ -131,7 +133,7 @@ pub are_tails : (a : Automaton) (k : Marking) (g : List (List ℕ)) (seeds : Lis
     IsSpread g seeds mixed [] → AreTails a k mixed
 are_tails a k g seeds old mixed behind seeded same spread = record {
   count = same ∙ seeded.count;
-  even = λ s state none. (even s state none, leads s none (behind.edges s state));
+  even = λ s state none. (even s state none, lead_from a (HasEdgeTo g s) (λ t. IsState a t × (is_mixed mixed t ≡ false)) (λ t. one s t none) s (behind.edges s state));
 }
   where
     even : (s : State) → IsState a s → is_mixed mixed s ≡ false → IsEven a k s
@@ -146,9 +148,3 @@ are_tails a k g seeds old mixed behind seeded same spread = record {
 
     one : (s t : State) → is_mixed mixed s ≡ false → HasEdge g (state_number t) (state_number s) → IsState a t × (is_mixed mixed t ≡ false)
     one s t none edge = ((let l = no_edge g (state_number t) (state_number s) edge in let c = behind.count in omega arith), unmarked s t none edge (is_mixed mixed t) refl)
-
-    leads : (s : State) → is_mixed mixed s ≡ false → LeadsFrom a (λ t. HasEdge g (state_number t) (state_number s)) s → LeadsFrom a (λ t. IsState a t × (is_mixed mixed t ≡ false)) s
-    leads s none e = record {
-      texts = λ n m lt. one s _ none (e.texts n m lt);
-      labels = λ n m lt. (one s _ none (e.labels n m lt).0, one s _ none (e.labels n m lt).1);
-    }

@@ -11,7 +11,7 @@ use Rattle.xd_match.specs.Matcher.{Stands}
 use Rattle.xd_match.specs.Serving.{Serves}
 
 pub stands_stay : (m : Matcher) (old new : List Document) → Stands old m → Keeps old new → Stands new m
-stands_stay m old new s k = record { start = s.start; distinct = s.distinct; tails = s.tails; right = stay_right_for_store m.answers m.auto old new k s.right }
+stands_stay m old new s k = record { compiled = s.compiled; right = stay_right_for_store m.answers m.compiled.auto old new k s.right }
 
 pub serves_stays : (m : Matchers) (p : ProgramTable) (old new : List Document) → Serves p old m → Keeps old new → Serves p new m
 serves_stays m p old new s k =

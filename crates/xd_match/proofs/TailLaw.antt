@@ -7,8 +7,9 @@ use Rattle.xd_auto.specs.declared.auto.State.{State}
 use Rattle.xd_auto.specs.declared.auto.LabelMove.{LabelMove}
 use Rattle.xd_auto.specs.declared.auto.TextMove.{TextMove}
 use Rattle.xd_auto.specs.Automaton.{Automaton, IsState, accepts, moves_at, takes_element, takes_word}
+use Rattle.xd_auto.specs.Universal.{moves_back, reads_back}
 use Rattle.xd_syntax.specs.Words.{has_word}
-use Rattle.xd_patterns.specs.Marked.{Marking, no_text_move, no_label_move}
+use Rattle.xd_patterns.specs.Marked.{Marking}
 use Rattle.xd_match.specs.First.{first_held}
 use Rattle.xd_match.specs.Taking.{IsFirst}
 use Rattle.xd_match.specs.Tails.{AreTails, GoesOnWith, is_mixed, tail_marks}
@@ -40,11 +41,11 @@ module _ (a : Automaton) (k : Marking) (mixed : List Bool) (tails : AreTails a k
       let found = find_first (takes_word a t d) (moves_at a s).texts e in
       let n : ℕ = found.0 in
       let first : IsFirst (takes_word a t d) (moves_at a s).texts n = found.1 in
-      let q : TextMove = no_text_move s in
+      let q : TextMove = reads_back s in
       let m : TextMove = get_or (moves_at a s).texts n q in
       let here = (tails.even s state even).0.texts n q first.within in
       let there = (tails.even s state even).1.texts n q first.within in
-      let rest : first_held a k x d m.rest ≡ cond (has_word (tail_marks a k s) x) d empty = later m.rest (tail_marks a k s) there.0 there.1 here.1 (word_accepted a k t d m (first.passes q)) in
+      let rest : first_held a k x d m.rest ≡ cond (has_word (tail_marks a k s) x) d empty = later m.rest (tail_marks a k s) there.0.0 there.0.1 here.1.0 (word_accepted a k t d m (first.passes q)) in
       held_text a k x n t d s q first
       ∙ ap (λ (ms : List (List ℕ)). join (cond (has_word ms x) (text t empty) empty) (first_held a k x d m.rest)) here.0
       ∙ ap (λ z. join (cond (has_word (tail_marks a k s) x) (text t empty) empty) z) rest
@@ -57,12 +58,12 @@ module _ (a : Automaton) (k : Marking) (mixed : List Bool) (tails : AreTails a k
       let found = find_first (takes_element a l c d) (moves_at a s).labels e in
       let n : ℕ = found.0 in
       let first : IsFirst (takes_element a l c d) (moves_at a s).labels n = found.1 in
-      let q : LabelMove = no_label_move s in
+      let q : LabelMove = moves_back s in
       let m : LabelMove = get_or (moves_at a s).labels n q in
       let here = (tails.even s state even).0.labels n q first.within in
       let there = (tails.even s state even).1.labels n q first.within in
-      let content : first_held a k x c m.content ≡ empty = inside m.content [] there.1.0 there.1.1 here.2 (content_accepted a k l c d m (first.passes q)) in
-      let rest : first_held a k x d m.rest ≡ cond (has_word (tail_marks a k s) x) d empty = later m.rest (tail_marks a k s) there.0.0 there.0.1 here.1 (rest_accepted a k l c d m (first.passes q)) in
+      let content : first_held a k x c m.content ≡ empty = inside m.content [] there.1.0 there.1.1 here.1.1 (content_accepted a k l c d m (first.passes q)) in
+      let rest : first_held a k x d m.rest ≡ cond (has_word (tail_marks a k s) x) d empty = later m.rest (tail_marks a k s) there.0.0 there.0.1 here.1.0 (rest_accepted a k l c d m (first.passes q)) in
       held_element a k x n l c d s q first
       ∙ ap (λ (ms : List (List ℕ)). join (cond (has_word ms x) (element l c empty) empty) (join (first_held a k x c m.content) (first_held a k x d m.rest))) here.0
       ∙ ap (λ z. join (cond (has_word (tail_marks a k s) x) (element l c empty) empty) (join z (first_held a k x d m.rest))) content

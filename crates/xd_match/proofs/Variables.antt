@@ -6,13 +6,14 @@ use Rattle.xd_doc.specs.Document.{Document}
 use Rattle.xd_doc.specs.Stored.{document_at}
 use Rattle.xd_doc.specs.StoredSeq.{BelongsTo}
 use Rattle.xd_doc.specs.declared.store.Seq.{Seq}
+use Rattle.xd_doc.specs.Runs.{held}
 use Rattle.xd_auto.specs.declared.auto.State.{State}
 use Rattle.xd_auto.specs.Automaton.{Automaton}
 use Rattle.xd_syntax.specs.Words.{has_word}
 use Rattle.xd_meaning.specs.Bindings.{each_once}
 use Rattle.xd_syntax.specs.NameFaults.{without}
 use Rattle.xd_meaning.specs.Meaning.{Environment}
-use Rattle.xd_pattern_runs.specs.Runs.{Run, held}
+use Rattle.xd_pattern_runs.specs.Runs.{MarkedRun, trace}
 use Rattle.xd_pattern_runs.specs.Laws.{run_bindings}
 use Rattle.xd_patterns.specs.Marked.{Marking}
 use Rattle.xd_patterns.specs.Variables.{words_of}
@@ -56,13 +57,13 @@ once_distinct (x ∷ xs) = (others x (each_once xs), distinct_filter (λ z. not 
 pub marked_by : (vs : List (List ℕ)) → IsDistinct bytes_eq vs → (ms : List ℕ) (words : List (List ℕ)) → words_of vs ms ≡ words → AreMarked vs ms words
 marked_by vs distinct ms words e x lt = number_held vs distinct x lt ms ∙ ap (λ (ws : List (List ℕ)). has_word ws (get_or vs x [])) e
 
-named_is : (ds : List Document) (d : Document) (r : Run) (vs : List (List ℕ)) (bound : List Seq) → length bound ≡ length vs →
-    ((x : ℕ) (e : Seq) → x < length vs → document_at ds (get_or bound x e) ≡ held (get_or vs x []) d r) → environment_in ds (named vs bound) ≡ run_bindings vs d r
+named_is : (ds : List Document) (d : Document) (r : MarkedRun) (vs : List (List ℕ)) (bound : List Seq) → length bound ≡ length vs →
+    ((x : ℕ) (e : Seq) → x < length vs → document_at ds (get_or bound x e) ≡ held d (trace (get_or vs x []) r)) → environment_in ds (named vs bound) ≡ run_bindings vs d r
 named_is ds d r [] bound n h = refl
 named_is ds d r (v ∷ vs) [] n h = absurd (omega arith)
 named_is ds d r (v ∷ vs) (s ∷ bound) n h =
     ap (λ (z : Document). (v, z) ∷ environment_in ds (named vs bound)) (h 0 s (omega arith))
-    ∙ ap (λ (z : Environment). (v, held v d r) ∷ z) (named_is ds d r vs bound (omega arith) (λ x e lt. h (suc x) e (omega arith)))
+    ∙ ap (λ (z : Environment). (v, held d (trace v r)) ∷ z) (named_is ds d r vs bound (omega arith) (λ x e lt. h (suc x) e (omega arith)))
 
 named_stands : (ds : List Document) (vs : List (List ℕ)) (bound : List Seq) → length bound ≡ length vs → ((x : ℕ) (e : Seq) → x < length vs → BelongsTo ds (get_or bound x e)) → ScopeStands ds (named vs bound)
 named_stands ds [] bound n h = tt
@@ -72,7 +73,7 @@ named_stands ds (v ∷ vs) (s ∷ bound) n h = (h 0 s (omega arith), named_stand
 pub bindings_named : {S : Type 0} (a : Automaton) (k : Marking) (d : Document) (s : State) (vs : List (List ℕ)) (ds : List Document) (bound : List Seq) (pairs : Vec (List ℕ × Seq) S) →
     AreHeld a k d s vs ds bound → pairs.items ≡ named vs bound → AreBindings ds (option_map (run_bindings vs d) (first_run a k d s)) (Some pairs)
 bindings_named {S = S} a k d s vs ds bound pairs h e =
-    subst (λ (o : Option Run). AreBindings {S = S} ds (option_map (run_bindings vs d) o) (Some pairs)) (sym h.run.1) (
+    subst (λ (o : Option MarkedRun). AreBindings {S = S} ds (option_map (run_bindings vs d) o) (Some pairs)) (sym h.run.1) (
       ap (environment_in ds) e
           ∙ named_is ds d h.run.0 vs bound h.count (λ x f lt. h.bindings x f lt ∙ ap (held_in (get_or vs x []) d) h.run.1),
       subst (ScopeStands ds) (sym e) (named_stands ds vs bound h.count h.belong),
@@ -80,4 +81,4 @@ bindings_named {S = S} a k d s vs ds bound pairs h e =
 
 pub nothing_bound : (S : Type 0) (a : Automaton) (k : Marking) (d : Document) (s : State) (vs : List (List ℕ)) (ds : List Document) → first_run a k d s ≡ None →
     AreBindings {S = S} ds (option_map (run_bindings vs d) (first_run a k d s)) None
-nothing_bound S a k d s vs ds e = subst (λ (o : Option Run). AreBindings {S = S} ds (option_map (run_bindings vs d) o) None) (sym e) tt
+nothing_bound S a k d s vs ds e = subst (λ (o : Option MarkedRun). AreBindings {S = S} ds (option_map (run_bindings vs d) o) None) (sym e) tt

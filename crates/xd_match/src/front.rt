@@ -1,8 +1,7 @@
 //! The first run of a compiled pattern, item by item.
 
 ghost use Rattle.std.specs.Prelude.{◌≡◌, ◌&&◌, ℕ, ◌+◌, ◌<◌, ◌≤◌, ◌++◌, ◌∷◌, [], true, length, slice_index_or, List, Some, IfOk, OnOk, MatchOption, None, Vec};
-ghost use Rattle.std.specs.List.{IsDistinct, list_any};
-ghost use Rattle.std.specs.Str.{bytes_eq};
+ghost use Rattle.std.specs.List.{list_any};
 ghost use Rattle.xd_doc.specs.DocumentCode.{content_of, rest_of};
 ghost use Rattle.xd_doc.specs.Stored.{document_at};
 ghost use Rattle.xd_doc.specs.StoredSeq.{BelongsTo};
@@ -10,17 +9,16 @@ ghost use Rattle.xd_doc.specs.StoreNodes.{Keeps, first_of_document};
 ghost use Rattle.xd_auto.specs.Automaton.{IsState, accepts, moves_at, takes_element, takes_word};
 ghost use Rattle.xd_auto.specs.Kept.{AreRight};
 ghost use Rattle.xd_patterns.specs.Held.{marking_of, variables_in};
+ghost use Rattle.xd_match.specs.Compiled.{PatternStands};
 ghost use Rattle.xd_match.specs.First.{AreHeld, first_run};
-ghost use Rattle.xd_match.specs.Tails.{AreTails};
 ghost use Rattle.xd_match.specs.Taking.{AddsPiece, AreTaken, IsFirst, IsReady, TakesItem, TakesTask, work};
 
 use crate::binding::{Piece, bind_each};
+use crate::compiled::CompiledPattern;
 use crate::tails::tail_of;
 use std::alloc::Global;
-use xd_auto::{Answers, Auto, LabelMove, State, accepts_kept};
-use xd_auto_pairs::MoveKind;
+use xd_auto::{Answers, Auto, LabelMove, MoveKind, State, accepts_kept};
 use xd_doc::{Item, Label, NoMemory, Seq, Store, Text};
-use xd_patterns::Marked;
 
 /// A document that a state accepts, over which its first run is still to be followed.
 #[derive(Clone, Copy)]
@@ -128,25 +126,24 @@ fn note(items: &mut Vec<Vec<Piece>>, marks: &[usize], piece: Piece) -> Result<()
 /// Takes the first item, a text, and gives what waits after it.
 fn take_text(
     answers: &mut Answers,
-    auto: &Auto,
-    marked: &Marked,
+    compiled: &CompiledPattern,
     store: &Store,
     task: Task,
     text: &Text,
     items: &mut Vec<Vec<Piece>>,
 ) -> Result<Task, NoMemory>
-    requires ready { IsReady auto.now store.now task }
-    requires distinct { IsDistinct bytes_eq (variables_in marked.now) }
+    requires ready { IsReady compiled.now.auto store.now task }
+    requires compiled { PatternStands compiled.now }
     requires text { first_of_document (document_at store.now task.seq) ≡ Some (Item.Text text.now) }
-    requires right { AreRight auto.now store.now answers.old }
-    ensures taken { IfOk result (λ next. TakesItem auto.now (marking_of marked.now) (variables_in marked.now) store.now task items.old.items items.new.items (next ∷ [])) }
-    ensures right { AreRight auto.now store.now answers.new }
+    requires right { AreRight compiled.now.auto store.now answers.old }
+    ensures taken { IfOk result (λ next. TakesItem compiled.now.auto (marking_of compiled.now.marked) (variables_in compiled.now.marked) store.now task items.old.items items.new.items (next ∷ [])) }
+    ensures right { AreRight compiled.now.auto store.now answers.new }
 {
     let rest = store.next(task.seq);
-    let number = first_text(answers, auto, store, text, task.state, rest)?;
-    let marks = marked.marks(task.state, MoveKind::Text, number);
+    let number = first_text(answers, &compiled.auto, store, text, task.state, rest)?;
+    let marks = compiled.marked.marks(task.state, MoveKind::Text, number);
     note(items, marks, Piece::First(task.seq))?;
-    let moves = auto.text_moves(task.state);
+    let moves = compiled.auto.text_moves(task.state);
     let step = &moves[number];
     Ok(Task {
         state: step.rest,
@@ -157,26 +154,33 @@ fn take_text(
 /// Takes the first item, an element, and gives what waits after it and in it.
 fn take_element(
     answers: &mut Answers,
-    auto: &Auto,
-    marked: &Marked,
+    compiled: &CompiledPattern,
     store: &Store,
     task: Task,
     label: &Label,
     items: &mut Vec<Vec<Piece>>,
 ) -> Result<(Task, Task), NoMemory>
-    requires ready { IsReady auto.now store.now task }
-    requires distinct { IsDistinct bytes_eq (variables_in marked.now) }
+    requires ready { IsReady compiled.now.auto store.now task }
+    requires compiled { PatternStands compiled.now }
     requires element { first_of_document (document_at store.now task.seq) ≡ Some (Item.Elem label.now) }
-    requires right { AreRight auto.now store.now answers.old }
-    ensures taken { IfOk result (λ next. TakesItem auto.now (marking_of marked.now) (variables_in marked.now) store.now task items.old.items items.new.items (next.0 ∷ (next.1 ∷ []))) }
-    ensures right { AreRight auto.now store.now answers.new }
+    requires right { AreRight compiled.now.auto store.now answers.old }
+    ensures taken { IfOk result (λ next. TakesItem compiled.now.auto (marking_of compiled.now.marked) (variables_in compiled.now.marked) store.now task items.old.items items.new.items (next.0 ∷ (next.1 ∷ []))) }
+    ensures right { AreRight compiled.now.auto store.now answers.new }
 {
     let rest = store.next(task.seq);
     let content = store.content(task.seq);
-    let number = first_label(answers, auto, store, label, task.state, content, rest)?;
-    let marks = marked.marks(task.state, MoveKind::Label, number);
+    let number = first_label(
+        answers,
+        &compiled.auto,
+        store,
+        label,
+        task.state,
+        content,
+        rest,
+    )?;
+    let marks = compiled.marked.marks(task.state, MoveKind::Label, number);
     note(items, marks, Piece::First(task.seq))?;
-    let moves = auto.label_moves(task.state);
+    let moves = compiled.auto.label_moves(task.state);
     let step = &moves[number];
     let behind = Task {
         state: step.rest,
@@ -193,39 +197,33 @@ fn take_element(
 /// belong to the same variables, and adds what waits after it and in it.
 fn take_task(
     answers: &mut Answers,
-    auto: &Auto,
-    marked: &Marked,
-    mixed: &[bool],
+    compiled: &CompiledPattern,
     task: Task,
     store: &Store,
     tasks: &mut Vec<Task>,
     items: &mut Vec<Vec<Piece>>,
 ) -> Result<(), NoMemory>
-    requires ready { IsReady auto.now store.now task }
-    requires distinct { IsDistinct bytes_eq (variables_in marked.now) }
-    requires tails { AreTails auto.now (marking_of marked.now) mixed.now }
-    requires right { AreRight auto.now store.now answers.old }
-    ensures taken { OnOk result (TakesTask auto.now (marking_of marked.now) (variables_in marked.now) store.now items.old.items items.new.items (tasks.old.items ++ task ∷ []) tasks.new.items) }
+    requires ready { IsReady compiled.now.auto store.now task }
+    requires compiled { PatternStands compiled.now }
+    requires right { AreRight compiled.now.auto store.now answers.old }
+    ensures taken { OnOk result (TakesTask compiled.now.auto (marking_of compiled.now.marked) (variables_in compiled.now.marked) store.now items.old.items items.new.items (tasks.old.items ++ task ∷ []) tasks.new.items) }
     ensures less { OnOk result (work store.now tasks.new.items < work store.now (tasks.old.items ++ task ∷ [])) }
-    ensures right { AreRight auto.now store.now answers.new }
+    ensures right { AreRight compiled.now.auto store.now answers.new }
 {
-    if !mixed[task.state.number()] {
-        note(
-            items,
-            tail_of(auto, marked, task.state),
-            Piece::Whole(task.seq),
-        )?;
+    if !compiled.is_mixed(task.state) {
+        let marks = tail_of(&compiled.auto, &compiled.marked, task.state);
+        note(items, marks, Piece::Whole(task.seq))?;
         return Ok(());
     }
     match store.first(task.seq) {
         None => Ok(()),
         Some(Item::Text(text)) => {
-            let next = take_text(answers, auto, marked, store, task, text, items)?;
+            let next = take_text(answers, compiled, store, task, text, items)?;
             tasks.push(next)?;
             Ok(())
         }
         Some(Item::Elem(label)) => {
-            let next = take_element(answers, auto, marked, store, task, label, items)?;
+            let next = take_element(answers, compiled, store, task, label, items)?;
             tasks.push(next.0)?;
             tasks.push(next.1)?;
             Ok(())
@@ -237,26 +235,21 @@ fn take_task(
 fn take_items(
     alloc: Global,
     answers: &mut Answers,
-    auto: &Auto,
-    marked: &Marked,
-    mixed: &[bool],
+    compiled: &CompiledPattern,
     start: Task,
     store: &Store,
 ) -> Result<Vec<Vec<Piece>>, NoMemory>
-    requires start { IsReady auto.now store.now start }
-    requires distinct { IsDistinct bytes_eq (variables_in marked.now) }
-    requires tails { AreTails auto.now (marking_of marked.now) mixed.now }
-    requires right { AreRight auto.now store.now answers.old }
-    ensures taken { IfOk result (λ items. AreTaken auto.now (marking_of marked.now) (variables_in marked.now) store.now start items.items []) }
-    ensures right { AreRight auto.now store.now answers.new }
+    requires start { IsReady compiled.now.auto store.now start }
+    requires compiled { PatternStands compiled.now }
+    requires right { AreRight compiled.now.auto store.now answers.old }
+    ensures taken { IfOk result (λ items. AreTaken compiled.now.auto (marking_of compiled.now.marked) (variables_in compiled.now.marked) store.now start items.items []) }
+    ensures right { AreRight compiled.now.auto store.now answers.new }
 {
-    let mut items = empty_rows(alloc, marked.variables().len())?;
+    let mut items = empty_rows(alloc, compiled.marked.variables().len())?;
     let mut tasks = Vec::new(alloc);
     tasks.push(start)?;
     while let Some(task) = tasks.pop() {
-        take_task(
-            answers, auto, marked, mixed, task, store, &mut tasks, &mut items,
-        )?;
+        take_task(answers, compiled, task, store, &mut tasks, &mut items)?;
     }
     Ok(items)
 }
@@ -282,28 +275,24 @@ fn empty_rows(alloc: Global, count: usize) -> Result<Vec<Vec<Piece>>, NoMemory>
 pub(crate) fn first_items(
     alloc: Global,
     answers: &mut Answers,
-    auto: &Auto,
-    marked: &Marked,
-    mixed: &[bool],
+    compiled: &CompiledPattern,
     store: &mut Store,
     seq: Seq,
 ) -> Result<Option<Vec<Seq>>, NoMemory>
-    requires start { IsState auto.now marked.now.start }
-    requires distinct { IsDistinct bytes_eq (variables_in marked.now) }
+    requires compiled { PatternStands compiled.now }
     requires seq { BelongsTo store.old seq }
-    requires tails { AreTails auto.now (marking_of marked.now) mixed.now }
-    requires right { AreRight auto.now store.old answers.old }
-    ensures found { IfOk result (λ found. MatchOption found (first_run auto.now (marking_of marked.now) (document_at store.old seq) marked.now.start ≡ None)
-        (λ bound. AreHeld auto.now (marking_of marked.now) (document_at store.old seq) marked.now.start (variables_in marked.now) store.new bound.items)) }
-    ensures right { AreRight auto.now store.new answers.new }
+    requires right { AreRight compiled.now.auto store.old answers.old }
+    ensures found { IfOk result (λ found. MatchOption found (first_run compiled.now.auto (marking_of compiled.now.marked) (document_at store.old seq) compiled.now.marked.start ≡ None)
+        (λ bound. AreHeld compiled.now.auto (marking_of compiled.now.marked) (document_at store.old seq) compiled.now.marked.start (variables_in compiled.now.marked) store.new bound.items)) }
+    ensures right { AreRight compiled.now.auto store.new answers.new }
     ensures keeps { Keeps store.old store.new }
 {
-    let start = marked.start();
-    if !accepts_kept(answers, auto, start, store, seq)? {
+    let start = compiled.marked.start();
+    if !accepts_kept(answers, &compiled.auto, start, store, seq)? {
         return Ok(None);
     }
     let first = Task { state: start, seq };
-    let items = take_items(alloc, answers, auto, marked, mixed, first, store)?;
+    let items = take_items(alloc, answers, compiled, first, store)?;
     answers.stay_right();
     let bound = bind_each(alloc, store, &items)?;
     Ok(Some(bound))

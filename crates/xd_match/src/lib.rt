@@ -2,6 +2,7 @@
 #![tactic(auto)]
 
 mod binding;
+mod compiled;
 mod front;
 mod matcher;
 mod matchers;

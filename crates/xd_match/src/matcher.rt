@@ -1,4 +1,4 @@
-//! A compiled pattern.
+//! A pattern with the answers of its matches.
 
 ghost use Rattle.std.specs.Prelude.{◌≡◌, List, length, IfOk, option_map};
 ghost use Rattle.xd_doc.specs.Document.{Document};
@@ -16,24 +16,21 @@ ghost use Rattle.xd_match.specs.First.{first_run};
 ghost use Rattle.xd_match.specs.Matches.{AreBindings, named};
 ghost use Rattle.xd_match.specs.Meanings.{Means};
 
+use crate::compiled::CompiledPattern;
 use crate::front::first_items;
 use crate::meanings::Meanings;
 use crate::tails::mixed_states;
 use std::alloc::Global;
 use xd_auto::{Answers, Auto};
 use xd_doc::{Label, NoMemory, Seq, Store};
-use xd_patterns::{Marked, compile_pattern};
+use xd_patterns::compile_pattern;
 use xd_sound::SoundProgram;
 use xd_syntax::PatternId;
 
-/// A compiled pattern, and the answers that its matches have found so far. Compiled patterns share
-/// no states, so each has an automaton of its own.
+/// A compiled pattern, and the answers that its matches have found so far.
 #[derive(Drop)]
 pub(crate) struct Matcher {
-    auto: Auto,
-    marked: Marked,
-    /// For each state whether it is mixed (see `tails`).
-    mixed: Vec<bool>,
+    compiled: CompiledPattern,
     answers: Answers,
 }
 
@@ -65,12 +62,14 @@ impl Matcher {
             &mut auto,
         )?;
         let mixed = mixed_states(alloc, &auto, &marked)?;
-        let answers = Answers::new(alloc);
-        Ok(Self {
+        let compiled = CompiledPattern {
             auto,
             marked,
             mixed,
-            answers,
+        };
+        Ok(Self {
+            compiled,
+            answers: Answers::new(alloc),
         })
     }
 
@@ -83,23 +82,16 @@ impl Matcher {
     ) -> Result<Option<Vec<(Label, Seq)>>, NoMemory>
         requires stands { Stands store.old self.old }
         requires seq { BelongsTo store.old seq }
-        ensures found { IfOk result (AreBindings store.new (option_map (run_bindings (variables_in self.old.marked) (document_at store.old seq)) (first_run self.old.auto (marking_of self.old.marked) (document_at store.old seq) self.old.marked.start))) }
+        ensures found { IfOk result (AreBindings store.new (option_map (run_bindings (variables_in self.old.compiled.marked) (document_at store.old seq)) (first_run self.old.compiled.auto (marking_of self.old.compiled.marked) (document_at store.old seq) self.old.compiled.marked.start))) }
         ensures stands { Stands store.new self.new }
         ensures pattern { (E : Definitions) (P : Tree) → IsOfPattern E P self.old → IsOfPattern E P self.new }
         ensures keeps { Keeps store.old store.new }
     {
-        let found = first_items(
-            alloc,
-            &mut self.answers,
-            &self.auto,
-            &self.marked,
-            &self.mixed,
-            store,
-            seq,
-        )?;
+        let found = first_items(alloc, &mut self.answers, &self.compiled, store, seq)?;
+        let variables = self.compiled.marked.variables();
         match found {
             None => Ok(None),
-            Some(bound) => Ok(Some(with_names(alloc, self.marked.variables(), &bound)?)),
+            Some(bound) => Ok(Some(with_names(alloc, variables, &bound)?)),
         }
     }
 }

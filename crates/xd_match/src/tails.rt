@@ -1,18 +1,16 @@
 //! States from which all that is left of a level belongs to the same variables.
 
-ghost use Rattle.std.specs.Prelude.{◌≡◌, ℕ, ◌<◌, [], true, false, length, get_or, List, IfOk, OnOk};
+ghost use Rattle.std.specs.Prelude.{◌≡◌, ℕ, ◌<◌, [], true, false, length, List, IfOk, OnOk};
 ghost use Rattle.xd_auto.specs.Automaton.{IsState, moves_at, state_number};
-ghost use Rattle.xd_auto.specs.declared.auto.LabelMove.{LabelMove};
-ghost use Rattle.xd_auto.specs.declared.auto.TextMove.{TextMove};
+ghost use Rattle.xd_auto.specs.Leading.{EndsAre};
 ghost use Rattle.xd_sound.specs.Emptiness.{is_marked};
 ghost use Rattle.xd_sound.specs.Graph.{HasEdge};
 ghost use Rattle.xd_patterns.specs.Held.{marking_of, variables_in};
 ghost use Rattle.xd_patterns.specs.Variables.{words_of};
-ghost use Rattle.xd_match.specs.Tails.{AreBehind, AreTails, GoesOnWith, HasEvenLabels, HasEvenTexts, IsEven, IsSpread, tail_marks};
+ghost use Rattle.xd_match.specs.Tails.{AllLead, AreBehind, AreEven, AreTails, EndsGoOnWith, GoesOnWith, HasEdgeTo, IsEven, IsSpread, tail_marks};
 
 use std::alloc::Global;
-use xd_auto::{Auto, State};
-use xd_auto_pairs::MoveKind;
+use xd_auto::{Auto, Ends, LabelMove, Leads, MoveKind, State, TextMove};
 use xd_doc::NoMemory;
 use xd_patterns::Marked;
 use xd_sound::Graph;
@@ -77,37 +75,39 @@ fn states_behind(alloc: Global, auto: &Auto) -> Result<Graph, NoMemory>
     let mut behind = Graph::new(alloc, auto.len())?;
     for number in 0..auto.len() {
         let state = auto.state(number);
-        add_texts(auto, state, &mut behind)?;
-        add_labels(auto, state, &mut behind)?;
+        add_moves::<TextMove>(auto, state, &mut behind)?;
+        add_moves::<LabelMove>(auto, state, &mut behind)?;
     }
     Ok(behind)
 }
 
-fn add_texts(auto: &Auto, state: State, behind: &mut Graph) -> Result<(), NoMemory>
+/// Adds an edge to the state from those that its moves of a kind lead to.
+fn add_moves<M: Leads>(auto: &Auto, state: State, behind: &mut Graph) -> Result<(), NoMemory>
     requires state { IsState auto.now state }
     requires count { length behind.old ≡ length auto.now }
     ensures count { OnOk result (length behind.new ≡ length behind.old) }
     ensures kept { OnOk result ((v w : ℕ) → HasEdge behind.old v w → HasEdge behind.new v w) }
-    ensures added { OnOk result ((n : ℕ) (e : TextMove) → n < length (moves_at auto.now state).texts → HasEdge behind.new (state_number (get_or (moves_at auto.now state).texts n e).rest) (state_number state)) }
+    ensures added { OnOk result (AllLead M.ends_of (HasEdgeTo behind.new state) (M.moves_in (moves_at auto.now state)) (length (M.moves_in (moves_at auto.now state)))) }
 {
-    for step in auto.text_moves(state) {
-        behind.add(step.rest.number(), state.number())?;
+    for step in M::moves(auto, state) {
+        add_ends(step.ends(), state, behind)?;
     }
     Ok(())
 }
 
-fn add_labels(auto: &Auto, state: State, behind: &mut Graph) -> Result<(), NoMemory>
-    requires state { IsState auto.now state }
-    requires count { length behind.old ≡ length auto.now }
+/// Adds an edge to the state from these.
+fn add_ends(ends: Ends, state: State, behind: &mut Graph) -> Result<(), NoMemory>
+    requires state { state_number state < length behind.old }
+    requires ends { EndsAre (λ t. state_number t < length behind.old) ends }
     ensures count { OnOk result (length behind.new ≡ length behind.old) }
     ensures kept { OnOk result ((v w : ℕ) → HasEdge behind.old v w → HasEdge behind.new v w) }
-    ensures rests { OnOk result ((n : ℕ) (e : LabelMove) → n < length (moves_at auto.now state).labels → HasEdge behind.new (state_number (get_or (moves_at auto.now state).labels n e).rest) (state_number state)) }
-    ensures contents { OnOk result ((n : ℕ) (e : LabelMove) → n < length (moves_at auto.now state).labels → HasEdge behind.new (state_number (get_or (moves_at auto.now state).labels n e).content) (state_number state)) }
+    ensures added { OnOk result (EndsAre (HasEdgeTo behind.new state) ends) }
 {
-    for step in auto.label_moves(state) {
-        behind.add(step.rest.number(), state.number())?;
-        behind.add(step.content.number(), state.number())?;
-    }
+    behind.add(ends.behind.number(), state.number())?;
+    let Some(inside) = ends.inside else {
+        return Ok(());
+    };
+    behind.add(inside.number(), state.number())?;
     Ok(())
 }
 
@@ -118,48 +118,40 @@ fn is_even(auto: &Auto, marked: &Marked, state: State) -> bool
     ensures { result ≡ true → IsEven auto.now (marking_of marked.now) state }
 {
     let own = tail_of(auto, marked, state);
-    has_even_texts(auto, marked, state, own) && has_even_labels(auto, marked, state, own)
+    has_even_moves::<TextMove>(auto, marked, state, own)
+        && has_even_moves::<LabelMove>(auto, marked, state, own)
 }
 
-fn has_even_texts(auto: &Auto, marked: &Marked, state: State, own: &[usize]) -> bool
+/// The same of the moves of a kind, where the items belong to these variables.
+fn has_even_moves<M: Leads>(auto: &Auto, marked: &Marked, state: State, own: &[usize]) -> bool
     requires { IsState auto.now state }
-    ensures { result ≡ true → HasEvenTexts auto.now (marking_of marked.now) (words_of (variables_in marked.now) own.now) state }
+    ensures { result ≡ true → AreEven M.ends_of M.KIND auto.now (marking_of marked.now) (words_of (variables_in marked.now) own.now) state (M.moves_in (moves_at auto.now state)) (length (M.moves_in (moves_at auto.now state))) }
 {
-    let steps = auto.text_moves(state);
+    let steps = M::moves(auto, state);
     for number in 0..steps.len() {
-        let marks = marked.marks(state, MoveKind::Text, number);
-        let step = &steps[number];
+        let marks = marked.marks(state, M::KIND, number);
+        let ends = steps[number].ends();
         if !are_same(marks, own) {
             return false;
         }
-        if !goes_on_with(auto, marked, step.rest, own) {
+        if !ends_go_on_with(auto, marked, ends, own) {
             return false;
         }
     }
     true
 }
 
-fn has_even_labels(auto: &Auto, marked: &Marked, state: State, own: &[usize]) -> bool
-    requires { IsState auto.now state }
-    ensures { result ≡ true → HasEvenLabels auto.now (marking_of marked.now) (words_of (variables_in marked.now) own.now) state }
+/// Whether the first items behind, if there are any, belong to these variables, and the first ones
+/// inside to none.
+fn ends_go_on_with(auto: &Auto, marked: &Marked, ends: Ends, own: &[usize]) -> bool
+    requires { EndsAre (IsState auto.now) ends }
+    ensures { result ≡ true → EndsGoOnWith auto.now (marking_of marked.now) (words_of (variables_in marked.now) own.now) ends }
 {
-    let steps = auto.label_moves(state);
-    for number in 0..steps.len() {
-        let marks = marked.marks(state, MoveKind::Label, number);
-        let step = &steps[number];
-        if !are_same(marks, own) {
-            return false;
-        }
-        let goes_on = goes_on_with(auto, marked, step.rest, own);
-        if !goes_on {
-            return false;
-        }
-        let is_clean = goes_on_with(auto, marked, step.content, &[]);
-        if !is_clean {
-            return false;
-        }
+    let goes_on = goes_on_with(auto, marked, ends.behind, own);
+    match ends.inside {
+        None => goes_on,
+        Some(inside) => goes_on && goes_on_with(auto, marked, inside, &[]),
     }
-    true
 }
 
 /// Whether the first items from the state on, if there are any, belong to these variables.

@@ -1,11 +1,11 @@
-use Rattle.std.proofs.Common.{◌≡◌, ◌<◌, ◌∙◌, ap, refl, false, vec_len, arith, rules, length, replicate}
+use Rattle.std.proofs.Common.{◌≡◌, ◌<◌, ◌∙◌, ap, inl, inr, refl, false, vec_len, arith, rules, length, replicate}
 use Rattle.std.proofs.lemmas.List.{length-replicate}
 use Rattle.std.proofs.lemmas.Option.{slice_get_read, slice_get_within}
 use Rattle.xd_auto.specs.Automaton.{moves_at}
-use Rattle.xd_auto.proofs.Closed.{moves_at-closed}
 use Rattle.xd_empty.specs.Parts.{is_marked}
+use Rattle.xd_auto.specs.Leading.{TextFilled, text_ends}
 use Rattle.xd_bind.specs.Search.{AreFollowed, LeadsAhead}
-use Rattle.xd_bind.proofs.IsSearchLemmas.{Grows-trans, listed_there, none_marked, search_begun, search_more, searched, texts_kept}
+use Rattle.xd_bind.proofs.IsSearchLemmas.{Grows-trans, Grows-weaker, all_followed_more, listed_there, none_marked, search_begun, search_more, searched}
 use Rattle.xd_bind.proofs.ahead.states_ahead.Goals as goal
 
 pub visit-requires : goal.visit-requires
@@ -27,38 +27,10 @@ loop-done-init g c =
       within = omega arith;
     }
 
-pub visit_texts-requires-clause-state : goal.visit_texts-requires-clause-state
-visit_texts-requires-clause-state g c =
+pub visit_moves-requires-clause-state : goal.visit_moves-requires-clause-state
+visit_moves-requires-clause-state g c =
     let v : vec_len c.loop-done.search.order ≡ length c.loop-done.search.order.items = search rules in
     listed_there _ _ _ _ _ _ _ c.loop-done.invariant.search c.loop-done.done c.index-state.result.now (omega arith) c.index-state.ensures
-
-pub visit_texts-requires-clause-rests : goal.visit_texts-requires-clause-rests
-visit_texts-requires-clause-rests g c i d lt =
-    let v : vec_len c.loop-done.search.order ≡ length c.loop-done.search.order.items = search rules in
-    let s = c.index-state.result.now in
-    let here = listed_there _ _ _ _ _ _ _ c.loop-done.invariant.search c.loop-done.done s (omega arith) c.index-state.ensures in
-    let below = (moves_at-closed c.args.auto.now s c.len.ensures.closed here).texts i d lt in
-    omega (arith, below, c.loop-done.invariant.search.sized)
-
-pub visit_elements-requires-clause-room : goal.visit_elements-requires-clause-room
-visit_elements-requires-clause-room g c =
-    omega (arith, c.loop-done.invariant.search.sized, (c.in_ok-visit_texts.ensures.grows (is_marked c.args.free.now)).sized, c.requires.free)
-
-pub visit_elements-requires-clause-contents : goal.visit_elements-requires-clause-contents
-visit_elements-requires-clause-contents g c i d lt =
-    let v : vec_len c.loop-done.search.order ≡ length c.loop-done.search.order.items = search rules in
-    let s = c.index-state.result.now in
-    let here = listed_there _ _ _ _ _ _ _ c.loop-done.invariant.search c.loop-done.done s (omega arith) c.index-state.ensures in
-    let below = (moves_at-closed c.args.auto.now s c.len.ensures.closed here).labels i d lt in
-    omega (arith, below.0, c.loop-done.invariant.search.sized, (c.in_ok-visit_texts.ensures.grows (is_marked c.args.free.now)).sized)
-
-pub visit_elements-requires-clause-rests : goal.visit_elements-requires-clause-rests
-visit_elements-requires-clause-rests g c i d lt =
-    let v : vec_len c.loop-done.search.order ≡ length c.loop-done.search.order.items = search rules in
-    let s = c.index-state.result.now in
-    let here = listed_there _ _ _ _ _ _ _ c.loop-done.invariant.search c.loop-done.done s (omega arith) c.index-state.ensures in
-    let below = (moves_at-closed c.args.auto.now s c.len.ensures.closed here).labels i d lt in
-    omega (arith, below.1, c.loop-done.invariant.search.sized, (c.in_ok-visit_texts.ensures.grows (is_marked c.args.free.now)).sized)
 
 pub loop-done-preserved : goal.loop-done-preserved
 loop-done-preserved g c =
@@ -70,14 +42,14 @@ loop-done-preserved g c =
     let v : vec_len c.loop-done.search.order ≡ length c.loop-done.search.order.items = search rules in
     let within : c.loop-done.done < length c.loop-done.search.order.items = omega arith in
     let at = slice_get_read c.loop-done.search.order.items (length c.loop-done.search.order.items) c.loop-done.done s refl within c.index-state.ensures in
-    let grows = Grows-trans (LeadsAhead b free s moves) _ _ _ _ _ _ (c.in_ok-visit_texts.ensures.grows free) c.in_ok-visit_elements.ensures.grows in
-    let f : AreFollowed b free s moves c.visit_elements.new.self.marks.items = record {
-      texts = texts_kept b free s moves _ _ _ _ _ c.in_ok-visit_elements.ensures.grows _ c.in_ok-visit_texts.ensures.marked;
-      elements = c.in_ok-visit_elements.ensures.marked;
-    } in
+    let one = c.in_ok-visit_moves.ensures in
+    let two = c.in_ok-visit_moves-2.ensures in
+    let grows = Grows-trans (LeadsAhead b free s moves) _ _ _ _ _ _ (Grows-weaker _ (LeadsAhead b free s moves) _ _ _ _ (λ t l. inl l) one.grows) (Grows-weaker _ (LeadsAhead b free s moves) _ _ _ _ (λ t l. inr l) two.grows) in
+    let f : AreFollowed b free s moves c.visit_moves-in-loop-done.new.self.marks.items =
+    record { texts = all_followed_more TextFilled text_ends (b.text s) free moves.texts _ _ _ _ _ two.grows _ one.marked; elements = two.marked } in
     let longer = slice_get_within _ c.loop-done.done s (grows.front c.loop-done.done s at) in
     record {
-      search = search_more a b c.args.start free c.len.ensures.closed _ _ c.loop-done.done s c.visit_elements.new.self.order.items c.visit_elements.new.self.marks.items c.loop-done.invariant.search at grows f;
+      search = search_more a b c.args.start free c.len.ensures.closed _ _ c.loop-done.done s c.visit_moves-in-loop-done.new.self.order.items c.visit_moves-in-loop-done.new.self.marks.items c.loop-done.invariant.search at grows f;
       within = omega arith;
     }
 
@@ -88,6 +60,5 @@ returns g c =
 
 pub loop-done-smaller : goal.loop-done-smaller
 loop-done-smaller g c =
-    let free = is_marked c.args.free.now in
     let v : vec_len c.loop-done.search.order ≡ length c.loop-done.search.order.items = search rules in
-    omega (arith, (c.in_ok-visit_texts.ensures.grows free).counted, c.in_ok-visit_elements.ensures.grows.counted, c.loop-done-test.true)
+    omega (arith, c.in_ok-visit_moves.ensures.grows.counted, c.in_ok-visit_moves-2.ensures.grows.counted, c.loop-done-test.true)

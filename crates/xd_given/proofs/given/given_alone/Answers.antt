@@ -40,6 +40,11 @@ returns-in_err-givens-clause-extends g c =
     extends_then c.args.auto.now c.find.new.auto c.add_givens.new.auto c.in_ok-start.ensures.extends
     (extends_then c.find.new.auto c.places_of.new.auto c.add_givens.new.auto c.in_ok-places.ensures.extends c.in_err-givens.ensures.extends)
 
+pub returns-then-is_empty-clause-shared : goal.returns-then-is_empty-clause-shared
+returns-then-is_empty-clause-shared g c =
+    shared c.args.auto.now c.find.new.auto c.args.patterns.now c.find.new.self c.in_ok-start.start c.in-Some.place c.args.left c.args.pattern c.args.rights.now c.learn.new.self c.learn.new.store c.in-Some-document._document
+    c.in_ok-start.ensures.table c.in_ok-start.ensures.belongs c.in_ok-start.ensures.means (sym c.in-Some.ensures) c.in_ok-learn.ensures.knows (sym c.in-Some-document.ensures)
+
 pub returns-clause-shared : goal.returns-clause-shared
 returns-clause-shared g c =
     shared c.args.auto.now c.find.new.auto c.args.patterns.now c.find.new.self c.in_ok-start.start c.in-Some.place c.args.left c.args.pattern c.args.rights.now c.learn.new.self c.learn.new.store c.in-Some-document._document

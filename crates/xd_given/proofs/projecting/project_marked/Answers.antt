@@ -1,9 +1,9 @@
 use Rattle.std.proofs.Common.{◌≡◌, ◌∙◌, Ok, ap, sym, subst, true, false, arith, length}
 use Rattle.xd_auto.specs.Automaton.{Automaton, accepts}
-use Rattle.xd_auto_pairs.specs.Traces.{KeepsTogether}
-use Rattle.xd_auto_pairs.specs.declared.kind.MoveKind.TheVariants.{Label, Text}
+use Rattle.xd_auto.specs.Traces.{KeepsTogether}
+use Rattle.xd_auto.specs.declared.kind.MoveKind.TheVariants.{Label, Text}
 use Rattle.xd_bind.specs.Projection.{owned_by}
-use Rattle.xd_bind.proofs.SameOwned.{together_same}
+use Rattle.xd_auto.proofs.SameMoves.{together_same}
 use Rattle.xd_given.specs.Buckets.{owned_in}
 use Rattle.xd_given.proofs.ProjectLemmas.{givens_whole, takes_whole}
 use Rattle.xd_given.proofs.projecting.project_marked.Goals as goal

@@ -12,23 +12,23 @@ use Rattle.xd_match.proofs.front.first_items.Goals as goal
 
 pub returns-then-not-branch-clause-found : goal.returns-then-not-branch-clause-found
 returns-then-not-branch-clause-found c =
-    let a = c.args.auto.now in
-    let k = marking_of c.args.marked.now in
+    let a = c.args.compiled.now.auto in
+    let k = marking_of c.args.compiled.now.marked in
     let d : Document = document_at c.args.store.now c.args.seq in
     let no : accepts a d c.start-start.result ≡ false = sym c.in_ok-accepts_kept.ensures.answer ∙ c.if-not-branch.true in
     ap (λ (s : State). first_run a k d s) (sym c.start-start.ensures) ∙ first_none a k d c.start-start.result no
 
 pub returns-in_err-bound-clause-right : goal.returns-in_err-bound-clause-right
-returns-in_err-bound-clause-right c = c.stay_right.ensures.store c.args.auto.now c.args.store.now _ c.bind_each.ensures.keeps c.in_ok-items.ensures.right
+returns-in_err-bound-clause-right c = c.stay_right.ensures.store c.args.compiled.now.auto c.args.store.now _ c.bind_each.ensures.keeps c.in_ok-items.ensures.right
 
 pub returns-clause-right : goal.returns-clause-right
-returns-clause-right c = c.stay_right.ensures.store c.args.auto.now c.args.store.now _ c.bind_each.ensures.keeps c.in_ok-items.ensures.right
+returns-clause-right c = c.stay_right.ensures.store c.args.compiled.now.auto c.args.store.now _ c.bind_each.ensures.keeps c.in_ok-items.ensures.right
 
 pub returns-clause-found : goal.returns-clause-found
 returns-clause-found c =
-    let a = c.args.auto.now in
-    let k = marking_of c.args.marked.now in
-    let vs = variables_in c.args.marked.now in
+    let a = c.args.compiled.now.auto in
+    let k = marking_of c.args.compiled.now.marked in
+    let vs = variables_in c.args.compiled.now.marked in
     let d : Document = document_at c.args.store.now c.args.seq in
     let yes : accepts a d c.start-start.result ≡ true = sym c.in_ok-accepts_kept.ensures.answer ∙ c.if-not-branch.false in
     let taken = c.in_ok-items.ensures.taken in
@@ -45,7 +45,7 @@ returns-clause-found c =
 
 pub take_items-requires-clause-start : goal.take_items-requires-clause-start
 take_items-requires-clause-start c = record {
-  state = subst (λ (s : State). IsState c.args.auto.now s) (sym c.start-start.ensures) c.requires.start;
+  state = subst (λ (s : State). IsState c.args.compiled.now.auto s) (sym c.start-start.ensures) c.requires.compiled.start;
   seq = c.requires.seq;
   accepted = sym c.in_ok-accepts_kept.ensures.answer ∙ c.if-not-branch.false;
 }

@@ -11,11 +11,11 @@ use Rattle.xd_match.proofs.front.take_element.Goals as goal
 
 pub returns-clause-taken : goal.returns-clause-taken
 returns-clause-taken c =
-    let a = c.args.auto.now in
+    let a = c.args.compiled.now.auto in
     let ds = c.args.store.now in
     let s = c.args.task.state in
-    let k = marking_of c.args.marked.now in
-    let vs = variables_in c.args.marked.now in
+    let k = marking_of c.args.compiled.now.marked in
+    let vs = variables_in c.args.compiled.now.marked in
     let l = c.args.label.now in
     let n = c.in_ok-number.number in
     let inner = document_at ds c.content-content.result in
@@ -28,7 +28,7 @@ returns-clause-taken c =
     subst (λ (q : LabelMove). IsState a q.content × IsState a q.rest) (sym is) (c.label_moves-moves.ensures.closed.labels n step found.within) in
     takes_label a k vs ds c.args.task c.args.items.now.items c.note.new.items.items c.marks-marks.result.now n l _ _ step c.requires.element c.requires.ready.seq
     (rw (c.content-content.ensures.inner, c.next-rest.ensures.rest) at found)
-    (marked_by vs c.requires.distinct c.marks-marks.result.now (get_or (k s).labels n []) c.marks-marks.ensures)
+    (marked_by vs c.requires.compiled.distinct c.marks-marks.result.now (get_or (k s).labels n []) c.marks-marks.ensures)
     c.in_ok-note.ensures.ok
     c.next-rest.ensures.rest
     (ap (λ (q : LabelMove). q.rest) is)

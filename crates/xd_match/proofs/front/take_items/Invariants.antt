@@ -5,8 +5,8 @@ use Rattle.xd_match.proofs.front.take_items.Given as goal
 
 abbrev pub invariant-loop-task : goal.invariant-loop-task
 invariant-loop-task l = record {
-  right : AreRight l.auto' l.store l.answers;
-  taken : AreTaken l.auto' (marking_of l.marked) (variables_in l.marked) l.store l.fn.start l.items.items l.tasks.items;
+  right : AreRight l.compiled.auto l.store l.answers;
+  taken : AreTaken l.compiled.auto (marking_of l.compiled.marked) (variables_in l.compiled.marked) l.store l.fn.start l.items.items l.tasks.items;
 }
 
 abbrev pub decreases-loop-task : goal.decreases-loop-task

@@ -11,10 +11,10 @@ use Rattle.xd_match.proofs.front.take_text.Goals as goal
 
 pub returns-clause-taken : goal.returns-clause-taken
 returns-clause-taken c =
-    let a = c.args.auto.now in
+    let a = c.args.compiled.now.auto in
     let ds = c.args.store.now in
     let s = c.args.task.state in
-    let vs = variables_in c.args.marked.now in
+    let vs = variables_in c.args.compiled.now.marked in
     let n = c.in_ok-number.number in
     let step : TextMove = c.index-moves-number.result in
     let is : step ≡ get_or (moves_at a s).texts n step = rw c.text_moves-moves.ensures.value at c.index-moves-number.is in
@@ -22,10 +22,10 @@ returns-clause-taken c =
     let passes : takes_word a c.args.text.now (document_at ds c.next-rest.result) step ≡ true =
     subst (λ (q : TextMove). takes_word a c.args.text.now (document_at ds c.next-rest.result) q ≡ true) (sym is) (found.passes step) in
     let state : IsState a step.rest = subst (λ (q : TextMove). IsState a q.rest) (sym is) (c.text_moves-moves.ensures.closed.texts n step found.within) in
-    takes_text a (marking_of c.args.marked.now) vs ds c.args.task c.args.items.now.items c.note.new.items.items c.marks-marks.result.now n c.args.text.now _ step c.requires.text c.requires.ready.seq
+    takes_text a (marking_of c.args.compiled.now.marked) vs ds c.args.task c.args.items.now.items c.note.new.items.items c.marks-marks.result.now n c.args.text.now _ step c.requires.text c.requires.ready.seq
     (rw c.next-rest.ensures.rest at found)
-    (marked_by vs c.requires.distinct c.marks-marks.result.now (get_or (marking_of c.args.marked.now s).texts n []) c.marks-marks.ensures)
+    (marked_by vs c.requires.compiled.distinct c.marks-marks.result.now (get_or (marking_of c.args.compiled.now.marked s).texts n []) c.marks-marks.ensures)
     c.in_ok-note.ensures.ok
     c.next-rest.ensures.rest
     (ap (λ (q : TextMove). q.rest) is)
-    (record { state = state; seq = c.next-rest.ensures.belongs; accepted = word_accepted a (marking_of c.args.marked.now) c.args.text.now (document_at ds c.next-rest.result) step passes })
+    (record { state = state; seq = c.next-rest.ensures.belongs; accepted = word_accepted a (marking_of c.args.compiled.now.marked) c.args.text.now (document_at ds c.next-rest.result) step passes })

@@ -4,7 +4,7 @@ use Rattle.std.proofs.lemmas.List.{nil_from_length}
 use Rattle.xd_auto.specs.declared.auto.State.{State}
 use Rattle.xd_auto.specs.Automaton.{accepts}
 use Rattle.xd_auto.proofs.ExtendsLemmas.{extends_then}
-use Rattle.xd_auto_pairs.proofs.Universals.{accepts_all}
+use Rattle.xd_auto.proofs.Universals.{accepts_all}
 use Rattle.xd_boole.specs.Meaning.{any_accepts}
 use Rattle.xd_clauses.proofs.Leaving.{alone_left, and_all}
 use Rattle.xd_clauses.proofs.compiled.CompiledPatterns.take_away.Goals as goal

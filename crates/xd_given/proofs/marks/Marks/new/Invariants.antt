@@ -1,6 +1,6 @@
 use Rattle.std.proofs.Common.{◌≡◌, ℕ, [], length, take}
 use Rattle.xd_auto.specs.declared.auto.State.{State}
-use Rattle.xd_auto_pairs.specs.declared.kind.MoveKind.{MoveKind}
+use Rattle.xd_auto.specs.declared.kind.MoveKind.{MoveKind}
 use Rattle.xd_bind.specs.Projection.{has_track}
 use Rattle.xd_given.specs.Buckets.{bucket_at}
 use Rattle.xd_given.proofs.marks.Marks.new.Given as goal

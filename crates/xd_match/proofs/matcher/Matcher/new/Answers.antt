@@ -33,10 +33,12 @@ compile_pattern-requires-clause-none c =
 
 pub returns-clause-stands : goal.returns-clause-stands
 returns-clause-stands c ds = record {
-  start = c.in_ok-marked.ensures.start;
-  distinct = subst (IsDistinct bytes_eq) (sym c.in_ok-marked.ensures.variables) (once_distinct (occurrences (pattern_tree c.patterns.result.now c.args.pattern)));
-  tails = c.in_ok-mixed.ensures;
-  right = c.new-answers.ensures.right _ ds;
+  compiled = record {
+    start = c.in_ok-marked.ensures.start;
+    distinct = subst (IsDistinct bytes_eq) (sym c.in_ok-marked.ensures.variables) (once_distinct (occurrences (pattern_tree c.patterns.result.now c.args.pattern)));
+    tails = c.in_ok-mixed.ensures;
+  };
+  right = c.new.ensures.right _ ds;
 }
 
 pub returns-clause-pattern : goal.returns-clause-pattern
