@@ -18,3 +18,4 @@ pub mod Staying
 pub mod ServesLemmas
 pub mod PlainTypes
 pub mod Together
+pub mod NamedLemmas

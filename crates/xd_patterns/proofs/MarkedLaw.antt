@@ -1,29 +1,30 @@
 -- Runs by numbers, and runs by marks.
-use Rattle.std.proofs.Common.{◌≡◌, ℕ, suc, zero, ◌<◌, arith, Bool, true, false, cond, List, [], ◌∷◌, ◌++◌, map, flat_map, length, get_or, Some, option_map, refl, ap, sym, subst, ◌∙◌, inl, inr}
+use Rattle.std.proofs.Common.{◌≡◌, ℕ, suc, zero, ◌<◌, arith, Bool, true, false, cond, List, [], ◌∷◌, ◌++◌, map, flat_map, length, get_or, Option, Some, option_map, refl, ap, sym, subst, ◌∙◌, inl, inr}
 use Rattle.std.specs.List.{Contains, slice_get}
-use Rattle.std.proofs.lemmas.Option.{get_or_from_slice_get}
 use Rattle.xd_doc.specs.Document.{Document, empty, text, element}
 use Rattle.xd_doc.specs.Classes.{class_has}
 use Rattle.xd_doc.proofs.Lists.{map_append}
+use Rattle.xd_doc.specs.Runs.{Run, at_end, at_text, at_element}
 use Rattle.xd_auto.specs.declared.auto.State.{State}
 use Rattle.xd_auto.specs.declared.auto.LabelMove.{LabelMove}
 use Rattle.xd_auto.specs.declared.auto.TextMove.{TextMove}
 use Rattle.xd_auto.specs.Automaton.{Automaton, moves_at}
 use Rattle.xd_auto.specs.Runs as Numbered
-use Rattle.xd_auto.specs.Runs.{ends, takes_text, takes_element, IsAcceptingRun, from_each}
-use Rattle.xd_auto.proofs.RunLaw.{runs_law, runs_are_accepting}
+use Rattle.xd_auto.specs.Runs.{IsAcceptingRun, from_each}
+use Rattle.xd_auto.specs.Traces.{text_rest_or, content_or, rest_or}
+use Rattle.xd_auto.proofs.RunLaw.{over_word, over_label, runs_law, runs_are_accepting}
 use Rattle.xd_meaning.specs.Bindings.{variables_of}
 use Rattle.xd_syntax.specs.Tree.{Tree, Definitions, occurrences}
 use Rattle.xd_syntax.specs.Ways.{Way, Among, IsWholeWay}
 use Rattle.xd_syntax.proofs.Members.{map_mem, mem_map, flat_same}
 use Rattle.xd_laws.specs.Guarded.{Guarded}
-use Rattle.xd_pattern_runs.specs.Runs.{Run, ended, over_text, over_element, text_runs, element_runs, runs_by, start}
+use Rattle.xd_pattern_runs.specs.Runs.{MarkedRun, text_runs, element_runs, runs_by, start}
 use Rattle.xd_pattern_runs.specs.Linear.{BindNothing, IsLinear}
 use Rattle.xd_pattern_runs.specs.Laws.{Agree, run_bindings, first_of}
 use Rattle.xd_pattern_runs.specs.Mirrors.{AreRunsOf, Mirrors, Ahead}
 use Rattle.xd_pattern_runs.proofs.Alike.{flat_of_map, map_of_flat, map_of_map}
 use Rattle.xd_pattern_runs.proofs.MirrorsLaw.{mirrors_run_of}
-use Rattle.xd_patterns.specs.Marked.{Marking, marked_text, marked_label, with_each, marked_moves, no_text_move, no_label_move, with_marks, IsCompiled}
+use Rattle.xd_patterns.specs.Marked.{Marking, marked_text, marked_label, with_each, marked_moves, with_marks, IsCompiled}
 
 -- members by number, and members
 
@@ -42,7 +43,7 @@ contains_among (y ∷ xs) x c = go c.0 c.1 c.2 (λ d. contains_among xs x d)
 
 -- marks in place of numbers
 
-each_marked : {A B : Type 0} (F : List (List ℕ) → A → B) (W : Numbered.Run → Run) (G : B → List Run) (f : ℕ → A → List Numbered.Run) (ms : List (List (List ℕ))) (moves : List A) →
+each_marked : {A B : Type 0} (F : List (List ℕ) → A → B) (W : Run ℕ → MarkedRun) (G : B → List MarkedRun) (f : ℕ → A → List (Run ℕ)) (ms : List (List (List ℕ))) (moves : List A) →
     ((n : ℕ) (m : A) → slice_get moves n ≡ Some m → map W (f n m) ≡ G (F (get_or ms n []) m)) → map W (from_each f moves) ≡ flat_map G (with_each F ms moves)
 each_marked F W G f ms [] h = refl
 each_marked F W G f [] (m ∷ moves) h =
@@ -54,23 +55,17 @@ each_marked F W G f (xs ∷ ms) (m ∷ moves) h =
     ∙ ap (λ z. z ++ map W (from_each (λ n. f (suc n)) moves)) (h 0 m refl)
     ∙ ap (λ z. G (F xs m) ++ z) (each_marked F W G (λ n. f (suc n)) ms moves (λ n q e. h (suc n) q e))
 
-abbrev over_word : Automaton → List ℕ → Document → ℕ → TextMove → List Numbered.Run
-over_word a t d n m = cond (class_has m.words t) (map (takes_text n) (Numbered.runs a d m.rest)) []
-
-abbrev over_label : Automaton → List ℕ → Document → Document → ℕ → LabelMove → List Numbered.Run
-over_label a l c d n m = cond (class_has m.class l) (flat_map (λ k. map (takes_element n k) (Numbered.runs a d m.rest)) (Numbered.runs a c m.content)) []
-
 module _ (a : Automaton) (k : Marking) where
   text_marked : (t : List ℕ) (d : Document) → ((q : State) → map (with_marks a k q) (Numbered.runs a d q) ≡ runs_by (marked_moves a k) d q) → (s : State) (n : ℕ) (m : TextMove) →
       slice_get (moves_at a s).texts n ≡ Some m → map (with_marks a k s) (over_word a t d n m) ≡ text_runs (runs_by (marked_moves a k) d) t (marked_text (get_or (k s).texts n []) m)
   text_marked t d h s n m e = go (class_has m.words t)
     where
-      go : (b : Bool) → map (with_marks a k s) (cond b (map (takes_text n) (Numbered.runs a d m.rest)) []) ≡ cond b (map (over_text (get_or (k s).texts n [])) (runs_by (marked_moves a k) d m.rest)) []
+      go : (b : Bool) → map (with_marks a k s) (cond b (map (at_text n) (Numbered.runs a d m.rest)) []) ≡ cond b (map (at_text (get_or (k s).texts n [])) (runs_by (marked_moves a k) d m.rest)) []
       go true =
-          map_of_map (with_marks a k s) (takes_text n) (Numbered.runs a d m.rest)
-          ∙ ap (λ (z : TextMove). map (λ q. over_text (get_or (k s).texts n []) (with_marks a k z.rest q)) (Numbered.runs a d m.rest)) (get_or_from_slice_get (moves_at a s).texts n m (no_text_move s) e)
-          ∙ sym (map_of_map (over_text (get_or (k s).texts n [])) (with_marks a k m.rest) (Numbered.runs a d m.rest))
-          ∙ ap (map (over_text (get_or (k s).texts n []))) (h m.rest)
+          map_of_map (with_marks a k s) (at_text n) (Numbered.runs a d m.rest)
+          ∙ ap (λ (o : Option TextMove). map (λ q. at_text (get_or (k s).texts n []) (with_marks a k (text_rest_or s o) q)) (Numbered.runs a d m.rest)) e
+          ∙ sym (map_of_map (at_text (get_or (k s).texts n [])) (with_marks a k m.rest) (Numbered.runs a d m.rest))
+          ∙ ap (map (at_text (get_or (k s).texts n []))) (h m.rest)
       go false = refl
 
   label_marked : (l : List ℕ) (c d : Document) → ((q : State) → map (with_marks a k q) (Numbered.runs a c q) ≡ runs_by (marked_moves a k) c q) →
@@ -78,28 +73,27 @@ module _ (a : Automaton) (k : Marking) where
       map (with_marks a k s) (over_label a l c d n m) ≡ element_runs (runs_by (marked_moves a k) c) (runs_by (marked_moves a k) d) l (marked_label (get_or (k s).labels n []) m)
   label_marked l c d g h s n m e = go (class_has m.class l)
     where
-      one : (q : Numbered.Run) → map (with_marks a k s) (map (takes_element n q) (Numbered.runs a d m.rest)) ≡ map (over_element (get_or (k s).labels n []) (with_marks a k m.content q)) (runs_by (marked_moves a k) d m.rest)
+      one : (q : Run ℕ) → map (with_marks a k s) (map (at_element n q) (Numbered.runs a d m.rest)) ≡ map (at_element (get_or (k s).labels n []) (with_marks a k m.content q)) (runs_by (marked_moves a k) d m.rest)
       one q =
-          map_of_map (with_marks a k s) (takes_element n q) (Numbered.runs a d m.rest)
-          ∙ ap (λ (z : LabelMove). map (λ r. over_element (get_or (k s).labels n []) (with_marks a k z.content q) (with_marks a k z.rest r)) (Numbered.runs a d m.rest))
-          (get_or_from_slice_get (moves_at a s).labels n m (no_label_move s) e)
-          ∙ sym (map_of_map (over_element (get_or (k s).labels n []) (with_marks a k m.content q)) (with_marks a k m.rest) (Numbered.runs a d m.rest))
-          ∙ ap (map (over_element (get_or (k s).labels n []) (with_marks a k m.content q))) (h m.rest)
+          map_of_map (with_marks a k s) (at_element n q) (Numbered.runs a d m.rest)
+          ∙ ap (λ (o : Option LabelMove). map (λ r. at_element (get_or (k s).labels n []) (with_marks a k (content_or s o) q) (with_marks a k (rest_or s o) r)) (Numbered.runs a d m.rest)) e
+          ∙ sym (map_of_map (at_element (get_or (k s).labels n []) (with_marks a k m.content q)) (with_marks a k m.rest) (Numbered.runs a d m.rest))
+          ∙ ap (map (at_element (get_or (k s).labels n []) (with_marks a k m.content q))) (h m.rest)
 
-      go : (b : Bool) → map (with_marks a k s) (cond b (flat_map (λ q. map (takes_element n q) (Numbered.runs a d m.rest)) (Numbered.runs a c m.content)) [])
-          ≡ cond b (flat_map (λ q. map (over_element (get_or (k s).labels n []) q) (runs_by (marked_moves a k) d m.rest)) (runs_by (marked_moves a k) c m.content)) []
+      go : (b : Bool) → map (with_marks a k s) (cond b (flat_map (λ q. map (at_element n q) (Numbered.runs a d m.rest)) (Numbered.runs a c m.content)) [])
+          ≡ cond b (flat_map (λ q. map (at_element (get_or (k s).labels n []) q) (runs_by (marked_moves a k) d m.rest)) (runs_by (marked_moves a k) c m.content)) []
       go true =
-          map_of_flat (with_marks a k s) (λ q. map (takes_element n q) (Numbered.runs a d m.rest)) (Numbered.runs a c m.content)
-          ∙ flat_same (λ q. map (with_marks a k s) (map (takes_element n q) (Numbered.runs a d m.rest)))
-          (λ q. map (over_element (get_or (k s).labels n []) (with_marks a k m.content q)) (runs_by (marked_moves a k) d m.rest)) (Numbered.runs a c m.content) (λ q i. one q)
-          ∙ sym (flat_of_map (λ q. map (over_element (get_or (k s).labels n []) q) (runs_by (marked_moves a k) d m.rest)) (with_marks a k m.content) (Numbered.runs a c m.content))
-          ∙ ap (flat_map (λ q. map (over_element (get_or (k s).labels n []) q) (runs_by (marked_moves a k) d m.rest))) (g m.content)
+          map_of_flat (with_marks a k s) (λ q. map (at_element n q) (Numbered.runs a d m.rest)) (Numbered.runs a c m.content)
+          ∙ flat_same (λ q. map (with_marks a k s) (map (at_element n q) (Numbered.runs a d m.rest)))
+          (λ q. map (at_element (get_or (k s).labels n []) (with_marks a k m.content q)) (runs_by (marked_moves a k) d m.rest)) (Numbered.runs a c m.content) (λ q i. one q)
+          ∙ sym (flat_of_map (λ q. map (at_element (get_or (k s).labels n []) q) (runs_by (marked_moves a k) d m.rest)) (with_marks a k m.content) (Numbered.runs a c m.content))
+          ∙ ap (flat_map (λ q. map (at_element (get_or (k s).labels n []) q) (runs_by (marked_moves a k) d m.rest))) (g m.content)
       go false = refl
 
   all_marked : (d : Document) (s : State) → map (with_marks a k s) (Numbered.runs a d s) ≡ runs_by (marked_moves a k) d s
   all_marked empty s = go (moves_at a s).last
     where
-      go : (b : Bool) → map (with_marks a k s) (cond b (ends ∷ []) []) ≡ cond b (ended ∷ []) []
+      go : (b : Bool) → map (with_marks a k s) (cond b (at_end ∷ []) []) ≡ cond b (at_end ∷ []) []
       go true = refl
       go false = refl
   all_marked (text t d) s =
@@ -109,11 +103,11 @@ module _ (a : Automaton) (k : Marking) where
       each_marked marked_label (with_marks a k s) (element_runs (runs_by (marked_moves a k) c) (runs_by (marked_moves a k) d) l) (over_label a l c d) (k s).labels (moves_at a s).labels
       (λ n m e. label_marked l c d (λ q. all_marked c q) (λ q. all_marked d q) s n m e)
 
-  marked_mem : (d : Document) (s : State) (run : Numbered.Run) → IsAcceptingRun a d s run → Among (with_marks a k s run) (runs_by (marked_moves a k) d s)
+  marked_mem : (d : Document) (s : State) (run : Run ℕ) → IsAcceptingRun a d s run → Among (with_marks a k s run) (runs_by (marked_moves a k) d s)
   marked_mem d s run h =
       subst (Among (with_marks a k s run)) (all_marked d s) (map_mem (with_marks a k s) run (Numbered.runs a d s) (contains_among (Numbered.runs a d s) run ((runs_are_accepting a s d run).1 h)))
 
-  mem_marked : (d : Document) (s : State) (r : Run) → Among r (runs_by (marked_moves a k) d s) → (run : Numbered.Run) × IsAcceptingRun a d s run × (with_marks a k s run ≡ r)
+  mem_marked : (d : Document) (s : State) (r : MarkedRun) → Among r (runs_by (marked_moves a k) d s) → (run : Run ℕ) × IsAcceptingRun a d s run × (with_marks a k s run ≡ r)
   mem_marked d s r m =
       let q = mem_map (with_marks a k s) r (Numbered.runs a d s) (subst (Among r) (sym (all_marked d s)) m) in
       (q.0, (runs_are_accepting a s d q.0).0 (among_contains (Numbered.runs a d s) q.0 q.1), q.2)
@@ -123,7 +117,7 @@ pub mirrored_is_compiled : (E : Definitions) → Guarded E → BindNothing E →
     Mirrors E (marked_moves a k) A → (s : State) → A s ≡ Some (start P) → IsCompiled E P a k s
 mirrored_is_compiled E guarded none P l a k A mirrors s e = compiled (mirrors_run_of E guarded none P l (marked_moves a k) A mirrors s e)
   where
-    way : AreRunsOf E P (marked_moves a k) s → (d : Document) (w : Way) → IsWholeWay E P d w → (run : Numbered.Run) × IsAcceptingRun a d s run × Agree (occurrences P) d (with_marks a k s run) w.bindings
+    way : AreRunsOf E P (marked_moves a k) s → (d : Document) (w : Way) → IsWholeWay E P d w → (run : Run ℕ) × IsAcceptingRun a d s run × Agree (occurrences P) d (with_marks a k s run) w.bindings
     way h d w m =
         let r = h.runs d w m in
         let q = mem_marked a k d s r.0 r.1 in

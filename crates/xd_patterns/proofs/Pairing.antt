@@ -44,6 +44,15 @@ paired_room R f [] zs ys h = omega arith
 paired_room R f (x ∷ xs) zs [] h = absurd h
 paired_room R f (x ∷ xs) zs (y ∷ ys) h = let i = paired_room R f xs zs ys h.1 in omega arith
 
+-- what goes with one by way of another
+pub paired_through : {A B C : Type 0} (R : A → B → Type 0) (Q : B → C → Type 0) (P : A → C → Type 0) → ((x : A) (y : B) (z : C) → R x y → Q y z → P x z) → (xs : List A) (ys : List B) (zs : List C) → AllPaired R xs ys → AllPaired Q ys zs → AllPaired P xs zs
+paired_through R Q P f [] [] [] h g = tt
+paired_through R Q P f [] [] (z ∷ zs) h g = absurd g
+paired_through R Q P f [] (y ∷ ys) zs h g = absurd h
+paired_through R Q P f (x ∷ xs) [] zs h g = absurd h
+paired_through R Q P f (x ∷ xs) (y ∷ ys) [] h g = absurd g
+paired_through R Q P f (x ∷ xs) (y ∷ ys) (z ∷ zs) h g = (f x y z h.0 g.0, paired_through R Q P f xs ys zs h.1 g.1)
+
 -- what goes with one
 pub paired_one : {A B : Type 0} (R : A → B → Type 0) (x : A) (ys : List B) (d : B) → AllPaired R (x ∷ []) ys → R x (get_or ys 0 d)
 paired_one R x [] d h = absurd h

@@ -7,7 +7,7 @@ use Rattle.xd_doc.specs.Classes.{NameClass, LabelClass, TextClass, is_named}
 use Rattle.xd_doc.proofs.SortedNames.{or_false}
 use Rattle.xd_doc.proofs.Bools.{or_true}
 use Rattle.xd_doc.proofs.Lists.{all_more, all_append}
-use Rattle.xd_auto_pairs.proofs.Universals.{no_names}
+use Rattle.xd_auto.proofs.Universals.{no_names}
 use Rattle.xd_meaning.specs.Heads.{all_texts}
 use Rattle.xd_auto.specs.declared.auto.State.{State}
 use Rattle.xd_auto.specs.declared.auto.LabelMove.{LabelMove}

@@ -1,9 +1,9 @@
 -- Variables by their numbers, and the marks of the moves of what was compiled.
 use Rattle.std.specs.Prelude.{ℕ, List, [], map, get_or}
 use Rattle.xd_auto.specs.declared.auto.State.{State}
-use Rattle.xd_auto_pairs.specs.declared.kind.MoveKind.{MoveKind}
-use Rattle.xd_auto_pairs.specs.declared.kind.MoveKind.TheVariants as M
-use Rattle.xd_patterns.specs.Marked.{Marking, MoveMarks}
+use Rattle.xd_auto.specs.declared.kind.MoveKind.{MoveKind}
+use Rattle.xd_auto.specs.declared.kind.MoveKind.TheVariants as M
+use Rattle.xd_patterns.specs.Marked.{Marking}
 use Rattle.xd_patterns.specs.Variables.{words_of, numbers_in}
 use Rattle.xd_patterns.specs.Compiling.{texts_from, labels_from, rows_in}
 use Rattle.xd_patterns.specs.declared.mark_table.MarkTable.{MarkTable}
@@ -29,11 +29,6 @@ words_at m s kind = map (list_words m) (lists_at m s kind)
 -- the variables that the items of each move belong to
 abbrev pub marking_in : MarkTable → Marking
 marking_in m s = record { texts = words_at m s M.Text; labels = words_at m s M.Label }
-
--- those of the move of this kind and number
-abbrev pub marks_at : MoveMarks → MoveKind → ℕ → List (List ℕ)
-marks_at k M.Label n = get_or k.labels n []
-marks_at k M.Text n = get_or k.texts n []
 
 -- the same of one pattern
 abbrev pub variables_in : Marked → List (List ℕ)

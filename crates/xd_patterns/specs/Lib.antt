@@ -11,3 +11,4 @@ pub mod CompiledState
 pub mod Starting
 pub mod CompiledProgram
 pub mod Sources
+pub mod Named

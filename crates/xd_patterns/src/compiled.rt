@@ -8,7 +8,7 @@ ghost use Rattle.xd_syntax.specs.Types.{BelongsTo};
 ghost use Rattle.xd_syntax.specs.Words.{has_word};
 ghost use Rattle.xd_patterns.specs.Sources.{IsDefined};
 ghost use Rattle.xd_patterns.specs.CompiledProgram.{AreCompiled, AreWithin, IsLinearPattern, each_variables, list_variables, marking_of_program, pattern_states, pattern_variables, type_states, variables_of_patterns, words_of_program};
-ghost use Rattle.xd_patterns.specs.Held.{marks_at};
+ghost use Rattle.xd_patterns.specs.Marked.{marks_at};
 ghost use Rattle.xd_patterns.specs.Starting.{pattern_piece, type_piece};
 ghost use Rattle.xd_patterns.specs.Variables.{put_each, words_of};
 
@@ -19,8 +19,7 @@ use crate::start::{compile_pieces, piece_of_pattern, piece_of_type};
 use crate::variables::{number_lists, variables};
 use indexmap::IndexSet;
 use std::alloc::Global;
-use xd_auto::{Auto, State};
-use xd_auto_pairs::MoveKind;
+use xd_auto::{Auto, MoveKind, State};
 use xd_doc::{Label, NoMemory};
 use xd_syntax::{PatternId, Patterns, TypeId};
 

@@ -24,6 +24,7 @@ ghost use Rattle.xd_patterns.specs.Sources.{IsDefined, names_in};
 use crate::chains::Marks;
 use crate::compiled::{CompiledProgram, compile_together};
 use crate::marked::{Marked, compile_marked};
+use crate::named::named_types;
 use crate::plain::compile_plain;
 use crate::sources::Sources;
 use std::alloc::Global;
@@ -110,9 +111,9 @@ impl PatternCompiler {
     /// accepts exactly what fits it, and one for each pattern, whose moves stand in order of
     /// preference, as those of [`compile`](PatternCompiler::compile) do.
     ///
-    /// What stands ahead has one state, however many of them lead to it. So an element's content is
-    /// the same state in each type and pattern that comes to it by the element's type, and the cost
-    /// is that of what differs. The program is the one that the compiler was made of, and the
+    /// What stands ahead has one state, however many of them lead to it: all uses of a declared type
+    /// have one, and an element's content is the same state in each type and pattern that comes to
+    /// it by the element's type. So the cost is that of what differs. The program is the one that the compiler was made of, and the
     /// patterns are linear. After `NoMemory` old states accept what they did.
     pub fn compile_all(
         &self,
@@ -133,7 +134,8 @@ impl PatternCompiler {
         ensures words { IfOk result (λ made. AllByRecursion (AreWithin (words_of_program made)) (pattern_variables made)) }
     {
         let sources = self.sources_of(sound);
-        let compiled = compile_together(alloc, &sources, types, patterns, auto)?;
+        let named = named_types(alloc, &sources, types)?;
+        let compiled = compile_together(alloc, &sources, &named, patterns, auto)?;
         Ok(compiled)
     }
 

@@ -9,6 +9,7 @@ mod expand;
 mod laws;
 mod mark_table;
 mod marked;
+mod named;
 mod pieces;
 mod plain;
 mod sources;

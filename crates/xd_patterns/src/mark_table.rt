@@ -2,14 +2,14 @@
 
 ghost use Rattle.std.specs.Prelude.{◌≡◌, [], ◌∷◌};
 ghost use Rattle.xd_syntax.specs.Words.{has_word};
-ghost use Rattle.xd_patterns.specs.Held.{list_words, lists_at, marking_in, marks_at, words_in};
+ghost use Rattle.xd_patterns.specs.Held.{list_words, lists_at, marking_in, words_in};
 ghost use Rattle.xd_patterns.specs.Variables.{words_of};
+ghost use Rattle.xd_patterns.specs.Marked.{marks_at};
 
 use crate::compile::StateMarks;
 use crate::variables::Numbers;
 use indexmap::IndexSet;
-use xd_auto::State;
-use xd_auto_pairs::MoveKind;
+use xd_auto::{MoveKind, State};
 use xd_doc::Label;
 
 /// Variables by their numbers, and for each move of the states that were made the list of those

@@ -1,10 +1,11 @@
 use Rattle.std.proofs.Common.{◌≡◌, ℕ, [], map, get_or, length, arith, refl, ap, sym, ◌∙◌}
 use Rattle.xd_auto.specs.declared.auto.State.{State}
-use Rattle.xd_auto_pairs.specs.declared.kind.MoveKind.{MoveKind}
-use Rattle.xd_auto_pairs.specs.declared.kind.MoveKind.TheVariants as M
-use Rattle.xd_patterns.specs.Held.{list_words, lists_at, marking_in, marks_at, words_in}
+use Rattle.xd_auto.specs.declared.kind.MoveKind.{MoveKind}
+use Rattle.xd_auto.specs.declared.kind.MoveKind.TheVariants as M
+use Rattle.xd_patterns.specs.Held.{list_words, lists_at, marking_in, words_in}
 use Rattle.xd_patterns.specs.Variables.{words_of}
 use Rattle.xd_patterns.specs.declared.mark_table.MarkTable.{MarkTable}
+use Rattle.xd_patterns.specs.Marked.{marks_at}
 use Rattle.xd_patterns.proofs.VariableLemmas.{mark_at, no_mark, no_numbers}
 use Rattle.xd_patterns.proofs.mark_table.MarkTable.list_of.Goals as goal
 

@@ -1,8 +1,8 @@
 use Rattle.std.proofs.Common.{◌≡◌, ◌-◌, ◌≤◌, ℕ, List, [], length, arith, ap, sym, ◌∙◌}
 use Rattle.xd_auto.specs.declared.auto.State.{State}
 use Rattle.xd_auto.specs.Automaton.{state_number}
-use Rattle.xd_auto_pairs.specs.declared.kind.MoveKind.{MoveKind}
-use Rattle.xd_auto_pairs.specs.declared.kind.MoveKind.TheVariants as M
+use Rattle.xd_auto.specs.declared.kind.MoveKind.{MoveKind}
+use Rattle.xd_auto.specs.declared.kind.MoveKind.TheVariants as M
 use Rattle.xd_patterns.specs.Held.{lists_at}
 use Rattle.xd_patterns.specs.Compiling.{rows_in, texts_at, labels_at}
 use Rattle.xd_patterns.specs.declared.compile.StateMarks.{StateMarks}
