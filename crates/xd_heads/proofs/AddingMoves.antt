@@ -287,6 +287,11 @@ module _ (types : List Row) (ds : List TypeDef) where
       compiled_state types ds c1 st0 st1 a0 a1 (length st0) [] inside s content.within (subst (IsOfState types) (sym content.same) k) (omega arith) g
       (compiled_cells types ds c0 c1 st0 a0 (length st0) [] content.cells.kept c)
 
+  pub type_states : (c0 c1 : List Cell) (st0 st1 : List ℕ) (a0 a1 : Automaton) (K : List Tree) (inside : ℕ) (s : State) → IsContent types c0 c1 K inside →
+      GetsState types ds c1 st0 st1 a0 a1 inside s → AddsStates c0 c1 st0 st1
+  type_states c0 c1 st0 st1 a0 a1 K inside s content g =
+      states_then c0 c1 c1 st0 st0 st1 (states_none c0 c1 content.cells.kept st0) (gets_states c1 st0 st1 a0 a1 inside s content.within g)
+
   pub type_bounded : (c0 c1 : List Cell) (i inside : ℕ) → i < length types → IsContent types c0 c1 (pieces (tree_at types i)) inside → StaysBounded types ds c0 c1
   type_bounded c0 c1 i inside h content tail stand b =
       content.bounded (meanings types ds) (nodes_in types) b
@@ -297,8 +302,7 @@ module _ (types : List Row) (ds : List TypeDef) where
       GetsState types ds c1 st0 st1 a0 a1 inside s → AreAllCompiled types ds c1 c2 st1 st2 a2 → AreAllCompiled types ds c0 c2 st0 st2 a2
   type_compiled c0 c1 c2 st0 st1 st2 a0 a1 a2 i inside s h content g a = record {
     cells_added = adds_then types c0 c1 c2 content.cells a.cells_added;
-    states_added = states_then c0 c1 c2 st0 st0 st2 (states_none c0 c1 content.cells.kept st0)
-        (states_then c1 c1 c2 st0 st1 st2 (gets_states c1 st0 st1 a0 a1 inside s content.within g) a.states_added);
+    states_added = states_then c0 c1 c2 st0 st1 st2 (type_states c0 c1 st0 st1 a0 a1 (pieces (tree_at types i)) inside s content g) a.states_added;
     bounded = λ tail stand b. a.bounded tail stand (type_bounded c0 c1 i inside h content tail stand b);
     compiled = a.compiled;
   }

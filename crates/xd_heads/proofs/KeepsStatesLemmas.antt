@@ -1,10 +1,9 @@
 -- A sound program meets what the core asks for, and the core gives what the calls on it promise.
-use Rattle.std.proofs.Common.{◌≡◌, ◌<◌, Bool, false, List, length, get_or, Some, arith, ap, subst, ◌∙◌}
-use Rattle.std.specs.List.{AllByRecursion}
+use Rattle.std.proofs.Common.{◌≡◌, ◌<◌, Bool, false, List, length, get_or, Some, arith, ap, ◌∙◌}
 use Rattle.xd_doc.proofs.Bools.{same_tests}
 use Rattle.xd_syntax.specs.Tree.{Tree, seq_of}
 use Rattle.xd_syntax.specs.Table.{Row, AreBuilt, KeepsRows, tree_at}
-use Rattle.xd_syntax.specs.Kept.{ProgramTable, TypeDefStands, ProgramStands, program_tree}
+use Rattle.xd_syntax.specs.Kept.{ProgramTable, ProgramStands, program_tree}
 use Rattle.xd_syntax.specs.Program.{names_of}
 use Rattle.xd_syntax.specs.RecursionFaults.{IsSound}
 use Rattle.xd_sound.specs.TypeNames.{meanings}
@@ -22,7 +21,7 @@ use Rattle.xd_continuations.proofs.SoundTail.{recurs_only_in_tail}
 use Rattle.xd_continuations.proofs.GrownTables.{bodies_stand}
 use Rattle.xd_moves.specs.Found.{AreDecidingMarks, AreOfTypes}
 use Rattle.xd_heads.specs.States.{number_at}
-use Rattle.xd_heads.specs.Compiled.{AreAllCompiled}
+use Rattle.xd_heads.specs.Compiled.{AreAllCompiled, AreSorted}
 use Rattle.xd_heads.specs.CellsView.{CellsView}
 use Rattle.xd_heads.specs.Mirrors.{continuation_of, KeepsStates, Mirrors}
 use Rattle.xd_moves.proofs.PutsTasksLemmas.{continuation_kept}
@@ -57,9 +56,9 @@ module _ (p : ProgramTable) (old new : CellsView) (a b : Automaton) (stands : Pr
         ∙ ap Some r.2;
   }
 
-  pub compiled_mirrors_again : Mirrors p new b
-  compiled_mirrors_again =
-      to_mirrors p new b (are_merged p stands built) all.compiled (all.cells_added.nodes m.kept.nodes)
+  pub compiled_mirrors_again : AreSorted p.types p.type_defs new.cells new.states new.sorts (length new.states) → Mirrors p new b
+  compiled_mirrors_again sorted =
+      to_mirrors p new b (are_merged p stands built) all.compiled sorted (all.cells_added.nodes m.kept.nodes)
       (all.bounded (recurs_only_in_tail (program_tree p) sound) (bodies_stand p stands) m.kept.bounded)
 
 -- what is kept while types are added, and then too

@@ -7,4 +7,5 @@ pub mod KeepsStatesLemmas
 pub mod GrowsTypesLemmas
 pub mod TypeNumbersLemmas
 pub mod HeadLists
+pub mod AreSortedLemmas
 pub mod HeadListerLemmas

@@ -26,7 +26,8 @@ use Rattle.xd_continuations.specs.Chains.{lists_after, lists_in, list_at}
 use Rattle.xd_moves.specs.Pieces.{piece_tree, turns_of}
 use Rattle.xd_moves.specs.Found.{continuation, AreOfTypes, AreBounded}
 use Rattle.xd_heads.specs.States.{number_at, nodes_from, nodes_in}
-use Rattle.xd_heads.specs.Compiled.{numbered, continuations_of, state_at, AreCompiled}
+use Rattle.xd_heads.specs.Compiled.{numbered, continuations_of, state_at, AreCompiled, AreSorted}
+use Rattle.xd_heads.specs.Sorts.{sorts_of}
 use Rattle.xd_heads.specs.CellsView.{CellsView, no_cells}
 use Rattle.xd_heads.specs.Mirrors.{as_type, continuation_of, AreHeadMoves, no_head, element_head, text_head, Mirrors, MirrorsStay}
 use Rattle.xd_moves.specs.declared.piece.Piece.{Piece}
@@ -124,8 +125,17 @@ module _ (p : ProgramTable) (c : CellsView) (a : Automaton) (merged : AreMerged 
       listed : (s : State) (K : List Tree) → C s ≡ Some K → IsContinuation K
       listed s K e = let r = numbered_is p.types p.type_defs c.cells (number_at c.states (state_number s)) K e in subst IsContinuation r.2 (m.kept.pieces (state_number s) r.0 r.1)
 
-  pub to_mirrors : AreCompiled p.types p.type_defs c.cells c.states a (length c.states) [] → AreOfTypes p.types c.cells → AreBounded E (nodes_in p.types) p.types c.cells → Mirrors p c a
-  to_mirrors m nodes bounded = record {
+  pub to_sorted : Mirrors p c a → AreSorted p.types p.type_defs c.cells c.states c.sorts (length c.states)
+  unfolding state_of_number
+  to_sorted m = record {
+    count = m.kept.rows;
+    right = λ n k h e.
+        let K = continuation p.types c.cells k in
+        m.sorts (state_of_number n) (seq_of K) (type_of_number p.types c (state_of_number n) k e) ∙ ap sorts_of (moves_are_heads E merged K (m.kept.pieces n k e));
+  }
+
+  pub to_mirrors : AreCompiled p.types p.type_defs c.cells c.states a (length c.states) [] → AreSorted p.types p.type_defs c.cells c.states c.sorts (length c.states) → AreOfTypes p.types c.cells → AreBounded E (nodes_in p.types) p.types c.cells → Mirrors p c a
+  to_mirrors m sorted nodes bounded = record {
     states = m.aligned;
     shallow = λ s t T e. let r = type_is p.types c t T e in subst (λ U. depth U ≤ nesting_limit) r.2 ((m.continuations (state_number t) r.0 r.1).1 s);
     flags = λ t T e. let r = type_is p.types c t T e in subst (λ U. (moves_at a t).last ≡ can_be_empty E U) r.2 (m.flags (state_number t) r.0 r.1);
@@ -136,7 +146,14 @@ module _ (p : ProgramTable) (c : CellsView) (a : Automaton) (merged : AreMerged 
         subst (λ U. AreHeadMoves (continuation_of p.types c) (heads E U) (moves_at a t).labels (moves_at a t).texts) r.2
         (subst (λ hs. AreHeadMoves (continuation_of p.types c) hs (moves_at a t).labels (moves_at a t).texts) (sym (moves_are_heads E merged K (m.continuations (state_number t) r.0 r.1).0))
         (to_heads C (m.complete (state_number t) r.0 w r.1)));
-    kept = record { numbers = m.numbers; nodes = nodes; pieces = λ n k e. (m.continuations n k e).0; bounded = bounded };
+    sorts = λ t T e.
+        let r = type_is p.types c t T e in
+        let K = continuation p.types c.cells r.0 in
+        let w = number_within c.states (state_number t) r.0 r.1 in
+        sorted.right (state_number t) r.0 w r.1
+        ∙ ap sorts_of (sym (moves_are_heads E merged K (m.continuations (state_number t) r.0 r.1).0))
+        ∙ ap (λ U. sorts_of (heads E U)) r.2;
+    kept = record { numbers = m.numbers; rows = sorted.count; nodes = nodes; pieces = λ n k e. (m.continuations n k e).0; bounded = bounded };
   }
 
 -- ---- a program that grows
@@ -210,8 +227,10 @@ mirrors_stay p q c a m adds e =
       moves = λ s T h.
           subst (λ E. AreHeadMoves (continuation_of q.types c) (heads E T) (moves_at a s).labels (moves_at a s).texts) (sym names)
           (head_moves_more (continuation_of p.types c) (continuation_of q.types c) (λ t U g. same t ∙ g) (m.moves s T (back s T h)));
+      sorts = λ s T h. m.sorts s T (back s T h) ∙ ap (λ E. sorts_of (heads E T)) (sym names);
       kept = record {
         numbers = m.kept.numbers;
+        rows = m.kept.rows;
         nodes = all_more (λ (d : Cell). d.item.node < length p.types) (λ (d : Cell). d.item.node < length q.types) c.cells
             (λ d h. let l = more_rows p.types q.types adds.types in omega arith) m.kept.nodes;
         pieces = λ n k h. subst IsContinuation (sym (continuation_stays p.types q.types adds.types c.cells m.kept.nodes k)) (m.kept.pieces n k h);
@@ -233,5 +252,6 @@ mirrors_none p = record {
   shallow = λ z s T h. cc;
   flags = λ s T h. cc;
   moves = λ s T h. cc;
-  kept = record { numbers = tt; nodes = tt; pieces = λ n k h. cc; bounded = bounded_no_cells p.types p.type_defs (names_of (program_tree p)) (nodes_in p.types) };
+  sorts = λ s T h. cc;
+  kept = record { numbers = tt; rows = refl; nodes = tt; pieces = λ n k h. cc; bounded = bounded_no_cells p.types p.type_defs (names_of (program_tree p)) (nodes_in p.types) };
 }

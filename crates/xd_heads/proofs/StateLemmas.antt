@@ -33,6 +33,8 @@ use Rattle.xd_moves.specs.Cells.{room, Cell}
 use Rattle.xd_sound.specs.TypeNames.{meanings}
 use Rattle.xd_moves.specs.Pieces.{piece_tree}
 use Rattle.xd_moves.specs.Found.{continuation, move_of, AreOfTypes, AreBounded}
+use Rattle.xd_continuations.specs.Continuation.{Move}
+use Rattle.xd_heads.specs.Sorts.{is_text}
 use Rattle.xd_heads.specs.States.{EachOnce, number_at, AddsNumber, IsOfCell, AddsStates, nodes_from, nodes_in}
 use Rattle.xd_continuations.proofs.IsBoundedLemmas.{bounded_length}
 use Rattle.xd_continuations.proofs.ChainLemmas.{kept_length, lists_within_are}
@@ -254,6 +256,10 @@ kind_of_other t rows (star_form i) c n v K = refl
 kind_of_other t rows (plus_form i) c n v K = refl
 kind_of_other t rows (opt_form i) c n v K = refl
 kind_of_other t rows (val_form x q i) c n v K = refl
+
+pub text_of_other : (t : ℕ → Tree) (rows : List Row) (f : Form) → CanFollow false rows f → ((c : LabelClass) (i : ℕ) → f ≡ elem_form c i → ⊥) → is_text (move_of (form_tree t f) []).kind ≡ true
+text_of_other t rows (words_form w) c n = refl
+text_of_other t rows f c n = ap (λ (m : Move). is_text m.kind) (kind_of_other t rows f c n (λ w e. cc) [])
 
 pub elem_of : (f : TypeForm) (c : LabelClass) (i : ℕ) → form_of f ≡ elem_form c i → (k : LabelClass) × (t : TypeId) × (f ≡ V.Elem k t)
 elem_of V.Empty c i e = cc

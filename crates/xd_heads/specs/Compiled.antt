@@ -1,8 +1,8 @@
 -- An automaton whose states have continuations, while it is made.
-use Rattle.std.specs.Prelude.{◌≡◌, ℕ, ◌<◌, ◌≤◌, ◌⊎◌, false, List, [], ◌∷◌, ◌++◌, length, get_or, Option, Some, None}
+use Rattle.std.specs.Prelude.{◌≡◌, ℕ, ◌<◌, ◌≤◌, ◌⊎◌, Bool, false, map, List, [], ◌∷◌, ◌++◌, length, get_or, Option, Some, None}
 use Rattle.std.specs.List.{AllByRecursion}
 use Rattle.xd_syntax.specs.Tree.{Tree, seq_of}
-use Rattle.xd_syntax.specs.Table.{Row}
+use Rattle.xd_syntax.specs.Table.{Row, tree_at}
 use Rattle.xd_meaning.specs.CanBeEmpty.{can_be_empty}
 use Rattle.xd_syntax.specs.TypeText.{depth}
 use Rattle.xd_syntax.specs.ShallowTables.{IsShallow}
@@ -10,10 +10,12 @@ use Rattle.xd_syntax.specs.Shallow.{nesting_limit}
 use Rattle.xd_syntax.specs.declared.types.TypeDef.{TypeDef}
 use Rattle.xd_auto.specs.Automaton.{Automaton, StateMoves, no_moves, state_number}
 use Rattle.xd_auto.specs.declared.auto.State.{State}
-use Rattle.xd_continuations.specs.Continuation.{Move, moves, IsContinuation}
+use Rattle.xd_continuations.specs.Continuation.{Move, moves, head_of, IsContinuation}
 use Rattle.xd_continuations.specs.Mirrors.{Continuations, AreMirrored}
 use Rattle.xd_sound.specs.TypeNames.{meanings}
-use Rattle.xd_moves.specs.Found.{continuation, AddsCells}
+use Rattle.xd_moves.specs.declared.expansion.Found.{Found}
+use Rattle.xd_moves.specs.Found.{continuation, move_of, AddsCells}
+use Rattle.xd_heads.specs.Sorts.{is_text, sorts_of, row_at}
 use Rattle.xd_heads.specs.States.{AddsStates, StaysBounded, IsOfCell, number_at}
 use Rattle.xd_moves.specs.Cells.{Cell}
 
@@ -79,3 +81,16 @@ pub record AreAllCompiled (types : List Row) (ds : List TypeDef) (old_cells new_
   pub states_added : AddsStates old_cells new_cells old new
   pub bounded : StaysBounded types ds old_cells new_cells
   pub compiled : AreCompiled types ds new_cells new auto (length new) []
+
+-- the move that was found is on a text
+abbrev pub is_on_text : List Row → Found → Bool
+is_on_text types f = is_text (move_of (tree_at types f.node) []).kind
+
+-- which moves of a continuation are on texts, in order
+abbrev pub move_sorts : List Row → List TypeDef → List Tree → List Bool
+move_sorts types ds K = sorts_of (map head_of (moves (meanings types ds) K))
+
+-- the first states have rows, which say which of their moves are on texts
+pub record AreSorted (types : List Row) (ds : List TypeDef) (cells : List Cell) (states : List ℕ) (rows : List (List Bool)) (done : ℕ) : Type 0 where
+  pub count : length rows ≡ done
+  pub right : (n k : ℕ) → n < done → number_at states n ≡ Some k → row_at rows n ≡ move_sorts types ds (continuation types cells k)

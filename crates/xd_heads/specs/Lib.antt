@@ -1,4 +1,5 @@
 pub mod States
+pub mod Sorts
 pub mod Compiled
 pub mod CellsView
 pub mod Mirrors

@@ -1,6 +1,6 @@
 //! Types as states of an automaton.
 
-ghost use Rattle.std.specs.Prelude.{◌≡◌, ◌<◌, ◌≤◌, ◌↔◌, ◌∷◌, [], true, length, IfOk, OnOk};
+ghost use Rattle.std.specs.Prelude.{◌≡◌, ◌<◌, ◌≤◌, ◌↔◌, ◌∷◌, [], true, length, map, IfOk, OnOk};
 ghost use Rattle.std.specs.List.{AllByRecursion};
 ghost use Rattle.xd_auto.specs.Automaton.{accepts, state_number};
 ghost use Rattle.xd_doc.specs.Document.{Document};
@@ -11,7 +11,8 @@ ghost use Rattle.xd_rules.specs.Heads.{element_in, text_in};
 ghost use Rattle.xd_meaning.specs.Heads.{pieces, all_texts};
 ghost use Rattle.xd_syntax.specs.Tree.{seq_of};
 ghost use Rattle.xd_syntax.specs.declared.types.TypeDef.{TypeDef};
-ghost use Rattle.xd_heads.specs.Compiled.{AddsMoves, AreAllCompiled, AreCompiled, GetsState, Spares, SparesOthers, continuations_of};
+ghost use Rattle.xd_heads.specs.Compiled.{AddsMoves, AreAllCompiled, AreCompiled, AreSorted, GetsState, Spares, SparesOthers, continuations_of, is_on_text, move_sorts};
+ghost use Rattle.xd_heads.specs.Sorts.{rows_of};
 ghost use Rattle.xd_continuations.specs.Bodies.{AreBodies};
 ghost use Rattle.xd_continuations.specs.Continuation.{AreMerged, IsMerged, moves};
 ghost use Rattle.xd_syntax.specs.Table.{tree_at};
@@ -25,7 +26,7 @@ use std::alloc::Global;
 use xd_auto::{Auto, State};
 use xd_doc::{Class, NoMemory, Words};
 use xd_moves::{Continuations, FirstUses, Found, Sources, content, expand, is_empty};
-use xd_syntax::{TypeForm, TypeId};
+use xd_syntax::{TypeForm, TypeId, Types};
 
 /// Continuations, and those of them that have states.
 #[derive(Drop)]
@@ -184,7 +185,31 @@ fn add_move(
     }
 }
 
-/// All moves of a continuation are added to a state, in order.
+/// Whether a move that was found is on a text, and not on an element.
+fn is_on_text(types: &Types, found: Found) -> bool
+    requires { found.node < length types.now }
+    ensures { result ≡ is_on_text types.now found }
+{
+    match types.node(TypeId::of(found.node)).form() {
+        TypeForm::Elem(_, _) => false,
+        _ => true,
+    }
+}
+
+/// Which moves that were found are on texts.
+fn sorts_of(alloc: Global, types: &Types, found: &[Found]) -> Result<Vec<bool>, NoMemory>
+    requires { AllByRecursion (λ (f : Found). f.node < length types.now) found.now }
+    ensures { IfOk result (λ sorts. sorts.items ≡ map (is_on_text types.now) found.now) }
+{
+    let mut sorts = Vec::new(alloc);
+    for one in found {
+        sorts.push(is_on_text(types, *one))?;
+    }
+    Ok(sorts)
+}
+
+/// All moves of a continuation are added to a state, in order. It answers which of them are on
+/// texts.
 fn add_moves(
     alloc: Global,
     sources: &Sources<'_>,
@@ -192,7 +217,7 @@ fn add_moves(
     from: State,
     made: &mut Made,
     auto: &mut Auto,
-) -> Result<(), NoMemory>
+) -> Result<Vec<bool>, NoMemory>
     requires guarded { Guarded (meanings sources.now.types.now sources.now.defs.now) }
     requires bodies { AreBodies sources.now.types.now sources.now.defs.now sources.now.bodies.now }
     requires marks { AreDecidingMarks sources.now.types.now sources.now.defs.now sources.now.marks.now }
@@ -201,16 +226,19 @@ fn add_moves(
     requires from { state_number from < length made.old.states }
     requires aligned { length auto.old ≡ length made.old.states }
     ensures moves { OnOk result (AddsMoves sources.now.types.now sources.now.defs.now made.old.cells made.new.cells made.old.states made.new.states auto.old auto.new from (moves (meanings sources.now.types.now sources.now.defs.now) (continuation sources.now.types.now made.old.cells number))) }
+    ensures sorts { IfOk result (λ sorts. sorts.items ≡ move_sorts sources.now.types.now sources.now.defs.now (continuation sources.now.types.now made.old.cells number)) }
     ensures spares { SparesOthers from auto.old auto.new }
 {
     let found = expand(alloc, sources, &mut made.cells, &made.uses, number)?;
+    let sorts = sorts_of(alloc, sources.types, &found)?;
     for one in &found {
         add_move(alloc, sources, *one, from, made, auto)?;
     }
-    Ok(())
+    Ok(sorts)
 }
 
-/// Adds all moves of the states from this number on, and of those that are made on the way.
+/// Adds all moves of the states from this number on, and of those that are made on the way, and
+/// for each of these states which of its moves are on texts.
 ///
 /// In a sound program this ends, since the continuations are finitely many.
 pub(crate) fn compile(
@@ -218,6 +246,7 @@ pub(crate) fn compile(
     sources: &Sources<'_>,
     first: usize,
     made: &mut Made,
+    rows: &mut Vec<Vec<bool>>,
     auto: &mut Auto,
 ) -> Result<(), NoMemory>
     requires guarded { Guarded (meanings sources.now.types.now sources.now.defs.now) }
@@ -229,8 +258,10 @@ pub(crate) fn compile(
     requires nodes { AreOfTypes sources.now.types.now made.old.cells }
     requires first { first ≤ length made.old.states }
     requires compiled { AreCompiled sources.now.types.now sources.now.defs.now made.old.cells made.old.states auto.old first [] }
+    requires sorted { AreSorted sources.now.types.now sources.now.defs.now made.old.cells made.old.states (rows_of rows.old.items) first }
     requires bounded { AreBounded (meanings sources.now.types.now sources.now.defs.now) (nodes_in sources.now.types.now) sources.now.types.now made.old.cells }
     ensures compiled { OnOk result (AreAllCompiled sources.now.types.now sources.now.defs.now made.old.cells made.new.cells made.old.states made.new.states auto.new) }
+    ensures sorted { OnOk result (AreSorted sources.now.types.now sources.now.defs.now made.new.cells made.new.states (rows_of rows.new.items) (length made.new.states)) }
     ensures spares { Spares first auto.old auto.new }
 {
     let mut done = first;
@@ -238,7 +269,8 @@ pub(crate) fn compile(
         let _count = made.cells.len();
         let _states = made.states.len();
         let from = auto.state(done);
-        add_moves(alloc, sources, number, from, made, auto)?;
+        let sorts = add_moves(alloc, sources, number, from, made, auto)?;
+        rows.push(sorts)?;
         done += 1;
     }
     Ok(())
@@ -246,12 +278,13 @@ pub(crate) fn compile(
 
 /// A state that accepts what fits a type, with all states that it leads to.
 ///
-/// The automaton's states are those of continuations, and each has its moves already.
+/// The automaton's states are those of continuations, and each has its moves and its row already.
 pub(crate) fn compile_node(
     alloc: Global,
     sources: &Sources<'_>,
     part: TypeId,
     made: &mut Made,
+    rows: &mut Vec<Vec<bool>>,
     auto: &mut Auto,
 ) -> Result<State, NoMemory>
     requires guarded { Guarded (meanings sources.now.types.now sources.now.defs.now) }
@@ -264,15 +297,17 @@ pub(crate) fn compile_node(
     requires marks { AreDecidingMarks sources.now.types.now sources.now.defs.now sources.now.marks.now }
     requires nodes { AreOfTypes sources.now.types.now made.old.cells }
     requires compiled { AreCompiled sources.now.types.now sources.now.defs.now made.old.cells made.old.states auto.old (length made.old.states) [] }
+    requires sorted { AreSorted sources.now.types.now sources.now.defs.now made.old.cells made.old.states (rows_of rows.old.items) (length made.old.states) }
     requires bounded { AreBounded (meanings sources.now.types.now sources.now.defs.now) (nodes_in sources.now.types.now) sources.now.types.now made.old.cells }
     ensures accepts { IfOk result (λ state. (d : Document) → (accepts auto.new d state ≡ true) ↔ Fits (meanings sources.now.types.now sources.now.defs.now) (tree_at sources.now.types.now part.at) d) }
     ensures continuation { IfOk result (λ state. continuations_of sources.now.types.now made.new.cells made.new.states state ≡ Some (pieces (tree_at sources.now.types.now part.at))) }
     ensures compiled { OnOk result (AreAllCompiled sources.now.types.now sources.now.defs.now made.old.cells made.new.cells made.old.states made.new.states auto.new) }
+    ensures sorted { OnOk result (AreSorted sources.now.types.now sources.now.defs.now made.new.cells made.new.states (rows_of rows.new.items) (length made.new.states)) }
     ensures spares { Spares (length auto.old) auto.old auto.new }
 {
     let first = made.states.len();
     let inside = content(sources.types, part, &mut made.cells, &made.uses)?;
     let state = state_of(sources, &made.cells, inside, &mut made.states, auto)?;
-    compile(alloc, sources, first, made, auto)?;
+    compile(alloc, sources, first, made, rows, auto)?;
     Ok(state)
 }

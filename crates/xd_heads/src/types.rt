@@ -16,7 +16,7 @@ ghost use Rattle.xd_sound.specs.Emptiness.{AreEmptyMarks};
 ghost use Rattle.xd_syntax.specs.Types.{BelongsTo, tree};
 ghost use Rattle.xd_heads.specs.Compiled.{Spares};
 ghost use Rattle.xd_heads.specs.CellsView.{CellsView, no_cells};
-ghost use Rattle.xd_heads.specs.Mirrors.{IsTypeState, KeepsStates, Mirrors, MirrorsStay, continuation_of};
+ghost use Rattle.xd_heads.specs.Mirrors.{IsTypeState, KeepsStates, Mirrors, MirrorsStay, continuation_of, sorts_at};
 
 use crate::compile::{Made, compile_node};
 use crate::states::States;
@@ -37,15 +37,18 @@ use xd_syntax::{Program, TypeId};
 #[derive(Drop)]
 pub struct Cells {
     made: Made,
+    /// For each state, which heads of its type are texts.
+    rows: Vec<Vec<bool>>,
     alloc: Global,
 }
 
 impl Model for Cells {
     ghost use Rattle.xd_heads.specs.CellsView.{CellsView};
+    ghost use Rattle.xd_heads.specs.Sorts.{rows_of};
 
     ghost Value = { CellsView };
 
-    ghost view = { λ c. record { cells = c.made.cells; states = c.made.states } };
+    ghost view = { λ c. record { cells = c.made.cells; states = c.made.states; sorts = rows_of c.rows.items } };
 }
 
 impl Cells {
@@ -59,7 +62,11 @@ impl Cells {
             uses: FirstUses::new(alloc),
             states: States::new(alloc),
         };
-        Self { made, alloc }
+        Self {
+            made,
+            rows: Vec::new(alloc),
+            alloc,
+        }
     }
 
     /// The continuation of a state, as a type of the program; types are added to it for that, and
@@ -82,6 +89,17 @@ impl Cells {
             }
             None => unreachable!(),
         }
+    }
+
+    /// Which heads of a state's type are texts, in order; the others are elements.
+    ///
+    /// The cells mirror an automaton, and the state is one of it.
+    pub fn sorts(&self, state: State) -> &[bool]
+        requires mirrors { (p : ProgramTable) × (a : Automaton) × Mirrors p self.now a }
+        requires state { IsTypeState self.now state }
+        ensures { result.now ≡ sorts_at self.now state }
+    {
+        &self.rows[state.number()]
     }
 }
 
@@ -171,7 +189,7 @@ fn compile_in(
         bodies,
         marks,
     };
-    let state = compile_node(alloc, &sources, id, &mut cells.made, auto)?;
+    let state = compile_node(alloc, &sources, id, &mut cells.made, &mut cells.rows, auto)?;
     Ok(state)
 }
 

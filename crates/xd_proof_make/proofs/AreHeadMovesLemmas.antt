@@ -18,7 +18,8 @@ use Rattle.xd_heads.specs.Mirrors.{AreHeadMoves, no_head, element_head}
 use Rattle.xd_heads.specs.Mirrors as mirrors
 use Rattle.xd_proof_make.specs.Written.{AreTypes, IsAt, Renumbers}
 use Rattle.xd_proof_make.specs.declared.places.Place.{Place}
-use Rattle.xd_proof_make.specs.Places.{is_text, sorts_of, numbers_of, places_of, all_places, place_in, new_numbers}
+use Rattle.xd_heads.specs.Sorts.{is_text, sorts_of}
+use Rattle.xd_proof_make.specs.Places.{numbers_of, places_of, all_places, place_in, new_numbers}
 
 -- ---- lists side by side
 
@@ -95,6 +96,12 @@ module _ (C : State → Option Tree) (all : List (Head Tree)) where
       → AllZip (IsAt C all) (places_of n (sorts_of hs)) (map label_head ls ++ map text_head ts)
   state_zip {hs} {ls} {ts} m front back n s =
       zip_append (IsAt C all) (numbers_of false n (sorts_of hs)) (numbers_of true n (sorts_of hs)) (map label_head ls) (map text_head ts) (elements_zip m front back n s) (texts_zip m front back n s)
+
+-- as many heads as moves
+pub moves_count : (C : State → Option Tree) {hs : List (Head Tree)} {ls : List LabelMove} {ts : List TextMove} → AreHeadMoves C hs ls ts → length hs ≡ length ls + length ts
+moves_count C no_head = refl
+moves_count C (element_head k c r m) = let i = moves_count C m in omega arith
+moves_count C (mirrors.text_head k r m) = let i = moves_count C m in omega arith
 
 -- those of several states
 module _ (E : Definitions) (a : Automaton) (C : State → Option Tree)

@@ -20,7 +20,8 @@ use Rattle.xd_goals.specs.declared.table.ChoiceNode.{ChoiceNode}
 use Rattle.xd_heads.specs.Mirrors.{AreHeadMoves, no_head, element_head}
 use Rattle.xd_heads.specs.Mirrors as mirrors
 use Rattle.xd_proof_make.specs.Written.{IsAt, IsCaseFor}
-use Rattle.xd_proof_make.specs.Places.{is_text, sorts_of, place_in}
+use Rattle.xd_heads.specs.Sorts.{is_text, sorts_of}
+use Rattle.xd_proof_make.specs.Places.{place_in}
 use Rattle.xd_proof_make.specs.Met.{number_in}
 use Rattle.xd_proof_make.specs.Ordered.{BeginsAt, IsCut, IsCaseOf, AreOrdered}
 use Rattle.xd_proof_make.proofs.AreHeadMovesLemmas.{numbered_there}

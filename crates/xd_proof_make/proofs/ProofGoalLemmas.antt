@@ -1,7 +1,7 @@
 -- A row as a goal between types.
 use Rattle.std.proofs.Common.{◌≡◌, ℕ, zero, suc, ◌+◌, ◌^◌, ◌<◌, ◌≤◌, Bool, true, false, ◌||◌, List, [], ◌∷◌, ◌++◌, map, length, get_or, take, Option, Some, None, Bor, refl, sym, ap, subst, ◌∙◌, arith}
 use Rattle.std.specs.List.{AllByRecursion, AllZip, flat_map, list_any}
-use Rattle.std.proofs.lemmas.List.{map-append, take_more}
+use Rattle.std.proofs.lemmas.List.{take_more}
 use Rattle.xd_doc.proofs.Lists.{zip_long, length-mapped}
 use Rattle.xd_goals.proofs.IsTreeBySortLemmas.{head_within}
 use Rattle.xd_syntax.specs.Tree.{Tree, Definitions}
@@ -26,20 +26,20 @@ use Rattle.xd_goals.specs.declared.table.Choice.{Choice}
 use Rattle.xd_goals.specs.declared.table.ChoiceNode.{ChoiceNode}
 use Rattle.xd_goals.proofs.GrowsByLemmas.{claim_within}
 use Rattle.xd_heads.specs.CellsView.{CellsView}
-use Rattle.xd_heads.specs.Mirrors.{Mirrors, continuation_of}
+use Rattle.xd_heads.specs.Mirrors.{Mirrors, continuation_of, sorts_at}
+use Rattle.xd_heads.specs.Sorts.{sorts_of}
 use Rattle.xd_rules.specs.declared.atom.Atom.{Atom}
 use Rattle.xd_rules.specs.declared.atom.Atom.TheVariants.{Label, OtherLabel, Text, OtherText}
 use Rattle.xd_proof.specs.declared.proof.ProofGoal.{ProofGoal}
 use Rattle.xd_proof_make.specs.Written.{AreTypes, IsWritten, Renumbers}
-use Rattle.xd_proof_make.specs.Places.{is_text, sorts_of, all_places, place_in, new_numbers}
+use Rattle.xd_proof_make.specs.Places.{all_places, place_in, new_numbers}
 use Rattle.xd_proof_make.specs.Met.{number_in}
 use Rattle.xd_proof_make.specs.Ordered.{AreOrdered, AreWrittenCases, IsWritable, SplitsWithin}
-use Rattle.xd_proof_make.specs.Few.{AreFew}
-use Rattle.xd_proof_make.specs.Known.{IsKnown, AreKnown, HasKnown, IsIdOf, known_at, sorts_in, sorts_at}
+use Rattle.xd_proof_make.specs.Few.{AreFew, AreFewMoves}
+use Rattle.xd_proof_make.specs.Known.{IsKnown, AreKnown, HasKnown, IsIdOf, known_at}
 use Rattle.xd_proof_make.specs.Made.{CanWrite, IsEmptyRight, IsGoalMade}
 use Rattle.xd_proof_make.specs.declared.places.Place.{Place}
-use Rattle.xd_proof_make.specs.declared.states.Known.{Known}
-use Rattle.xd_proof_make.proofs.AreHeadMovesLemmas.{places_renumber, places_heads, places_of_types, new_numbers-length}
+use Rattle.xd_proof_make.proofs.AreHeadMovesLemmas.{moves_count, places_renumber, places_heads, places_of_types, new_numbers-length}
 use Rattle.xd_proof_make.proofs.IsNamedLemmas.{names_written}
 use Rattle.xd_proof_make.proofs.CaseOrderLemmas.{cut_at, wanted_above, wanted_below, wanted-append, ordered, AreCases}
 use Rattle.xd_rules.specs.Meaning.{AllLeaves, right_heads as claim_heads}
@@ -63,44 +63,40 @@ empty_written E a C flags left rights goal e z (Some n) h =
 
 -- ---- what is known of several states
 
-record AreTyped (p : ProgramTable) (c : CellsView) (states : List (Option Known)) (ss : List State) : Type 0 where
+record AreTyped (p : ProgramTable) (c : CellsView) (states : List (Option TypeId)) (ss : List State) : Type 0 where
   types : List Tree
   typed : AreTypes (continuation_of p.types c) ss types
-  sorts : map (sorts_at states) ss ≡ map (λ (T : Tree). sorts_of (heads (names_of (program_tree p)) T)) types
+  sorts : map (sorts_at c) ss ≡ map (λ (T : Tree). sorts_of (heads (names_of (program_tree p)) T)) types
   ids : (ids : List TypeId) → AllZip (IsIdOf states) ids ss → AllZip (λ id T. IsTypeAt p.types T id) ids types
 
-typed_all : (p : ProgramTable) (c : CellsView) (states : List (Option Known)) → AreKnown p c states → (ss : List State) → AllByRecursion (HasKnown states) ss → AreTyped p c states ss
-typed_all p c states k [] h = record { types = []; typed = tt; sorts = refl; ids = none }
+typed_all : (p : ProgramTable) (c : CellsView) (a : Automaton) (states : List (Option TypeId)) → Mirrors p c a → AreKnown p c states → (ss : List State) → AllByRecursion (HasKnown states) ss → AreTyped p c states ss
+typed_all p c a states m k [] h = record { types = []; typed = tt; sorts = refl; ids = none }
   where
     none : (ids : List TypeId) → AllZip (IsIdOf states) ids [] → AllZip (λ id T. IsTypeAt p.types T id) ids []
     none [] z = tt
     none (i ∷ ids) z = absurd z
-typed_all p c states k (s ∷ ss) h = one (typed_all p c states k ss h.1)
+typed_all p c a states m k (s ∷ ss) h =
+    let r = typed_all p c a states m k ss h.1 in
+    let x = k s h.0.known h.0.kept in
+    record {
+      types = x.type_ ∷ r.types;
+      typed = (x.continuation, r.typed);
+      sorts = (let here = m.sorts s x.type_ x.continuation in let others = r.sorts in cc);
+      ids = ids r;
+    }
   where
-    one : AreTyped p c states ss → AreTyped p c states (s ∷ ss)
-    one rest =
-        let x = k s h.0.known h.0.kept in
-        record {
-          types = x.type_ ∷ rest.types;
-          typed = (x.continuation, rest.typed);
-          sorts = ap (λ (o : Option (Option Known)). sorts_in o ∷ map (sorts_at states) ss) h.0.kept
-              ∙ (ap (λ (b : List Bool). b ∷ map (sorts_at states) ss) x.sorts ∙ ap (λ (bs : List (List Bool)). sorts_of (heads (names_of (program_tree p)) x.type_) ∷ bs) rest.sorts);
-          ids = ids x rest;
-        }
-      where
-        ids : IsKnown p c s h.0.known → (r : AreTyped p c states ss) → (is : List TypeId) → AllZip (IsIdOf states) is (s ∷ ss) → AllZip (λ id T. IsTypeAt p.types T id) is ((k s h.0.known h.0.kept).type_ ∷ r.types)
-        ids x r [] z = absurd z
-        ids x r (i ∷ is) z =
-            let q : (z.0).known ≡ h.0.known = (let u = (z.0).kept in let v = h.0.kept in cc) in
-            let w : i ≡ (h.0.known).id = (z.0).same ∙ ap (λ (y : Known). y.id) q in
-            (subst (λ (y : TypeId). IsTypeAt p.types (k s h.0.known h.0.kept).type_ y) (sym w) (k s h.0.known h.0.kept).there, r.ids is z.1)
+    ids : (r : AreTyped p c states ss) → (is : List TypeId) → AllZip (IsIdOf states) is (s ∷ ss) → AllZip (λ id T. IsTypeAt p.types T id) is ((k s h.0.known h.0.kept).type_ ∷ r.types)
+    ids r [] z = absurd z
+    ids r (i ∷ is) z =
+        let w : i ≡ h.0.known = (let u = z.0 in let v = h.0.kept in cc) in
+        (subst (λ (y : TypeId). IsTypeAt p.types (k s h.0.known h.0.kept).type_ y) (sym w) (k s h.0.known h.0.kept).there, r.ids is z.1)
 
 -- ---- the goal
 
-module _ (p : ProgramTable) (c : CellsView) (a : Automaton) (nodes : List ChoiceNode) (states : List (Option Known)) (numbers places : List ℕ) (row : GoalRow) (made : ProofGoal) (known : Known) (elements : ℕ)
+module _ (p : ProgramTable) (c : CellsView) (a : Automaton) (nodes : List ChoiceNode) (states : List (Option TypeId)) (numbers places : List ℕ) (row : GoalRow) (made : ProofGoal) (known : TypeId) (elements : ℕ)
     (m : Mirrors p c a) (k : AreKnown p c states) (kept : known_at states row.left ≡ Some (Some known)) (rights : AllByRecursion (HasKnown states) row.rights) (begun : IsBegun a (claim_of row) row.choices)
-    (pl : places ≡ all_places 1 (map (sorts_at states) row.rights)) (el : elements ≡ length (moves_at a row.left).labels)
-    (cases : AreWrittenCases nodes places numbers (known.sorts).items elements row.choices (made.cases).items) where
+    (pl : places ≡ all_places 1 (map (sorts_at c) row.rights)) (el : elements ≡ length (moves_at a row.left).labels)
+    (cases : AreWrittenCases nodes places numbers (sorts_at c row.left) elements row.choices (made.cases).items) where
   abbrev E : Definitions
   E = names_of (program_tree p)
 
@@ -111,7 +107,7 @@ module _ (p : ProgramTable) (c : CellsView) (a : Automaton) (nodes : List Choice
   x = k row.left known kept
 
   r : AreTyped p c states row.rights
-  r = typed_all p c states k row.rights rights
+  r = typed_all p c a states m k row.rights rights
 
   abbrev goal : Goal
   goal = record { left = x.type_; rights = r.types; empty_right = made.empty_right; cases = cases.cases }
@@ -135,7 +131,7 @@ module _ (p : ProgramTable) (c : CellsView) (a : Automaton) (nodes : List Choice
   in_order : AreCases C nodes places numbers names row.choices (heads_of a row.left) (heads E x.type_) cases.cases (atoms_from names 1 (heads E x.type_))
   in_order =
       ordered C nodes places numbers names row.choices (heads_of a row.left) (heads E x.type_) (m.moves row.left x.type_ x.continuation) 1 1 (elements + 1) cases.front cases.back cases.cases
-      (subst (λ (ss : List Bool). AreOrdered nodes places numbers ss 1 1 (elements + 1) cases.front cases.back cases.cases) x.sorts cases.ordered)
+      (subst (λ (ss : List Bool). AreOrdered nodes places numbers ss 1 1 (elements + 1) cases.front cases.back cases.cases) (m.sorts row.left x.type_ x.continuation) cases.ordered)
       keys.0 keys.1
       (λ y h. subst (IsOneOf y) (sym (cases.cut).same) (one_of-append_left y cases.front cases.back h)) (λ y h. subst (IsOneOf y) (sym (cases.cut).same) (one_of-append_right y cases.front cases.back h))
       [] (record { same = refl; count = refl }) [] texts_of (record { same = refl; count = refl }) elements_of (record { same = refl; count = (let n = length-mapped label_head (moves_at a row.left).labels in omega arith) })
@@ -151,9 +147,9 @@ module _ (p : ProgramTable) (c : CellsView) (a : Automaton) (nodes : List Choice
     each = in_order.1;
   }
 
-  pub goal_made : made.left ≡ known.id → AllZip (IsIdOf states) (made.rights).items row.rights → IsEmptyRight a row.left row.rights made.empty_right → made.line ≡ 1 → AreFew row.rights → AreFew places → AreFew (made.cases).items
+  pub goal_made : made.left ≡ known → AllZip (IsIdOf states) (made.rights).items row.rights → IsEmptyRight a row.left row.rights made.empty_right → made.line ≡ 1 → AreFew row.rights → AreFewMoves (moves_at a row.left).labels (moves_at a row.left).texts → AreFew places → AreFew (made.cases).items
       → IsGoalMade p c a nodes numbers row made
-  goal_made left ids empty line few_rights few_places few_cases = record {
+  goal_made left ids empty line few_rights few_left few_places few_cases = record {
     goal = goal;
     is = record { left = subst (λ (i : TypeId). IsTypeAt p.types x.type_ i) (sym left) x.there; rights = r.ids (made.rights).items ids; empty_right = refl; cases = cases.read };
     written = written empty;
@@ -161,7 +157,7 @@ module _ (p : ProgramTable) (c : CellsView) (a : Automaton) (nodes : List Choice
     fit = record { fits = (let n = zip_long (IsIdOf states) (made.rights).items row.rights ids in omega (arith, line, few_rights, few_cases, n)) };
     small = record {
       rights = subst (λ (n : ℕ). n < 10 ^ 18) (zip_long (λ (s : State) (T : Tree). C s ≡ Some T) row.rights r.types r.typed) few_rights;
-      on_left = subst (λ (n : ℕ). n < 10 ^ 18) (ap length x.sorts ∙ length-mapped (λ (h : Head Tree). is_text h.kind) (heads E x.type_)) x.few;
+      on_left = subst (λ (n : ℕ). n < 10 ^ 18) (sym (moves_count C (m.moves row.left x.type_ x.continuation))) few_left;
       on_right = subst (λ (n : ℕ). n < 10 ^ 18) (ap length (pl ∙ ap (all_places 1) r.sorts) ∙ places_of_types E 1 r.types) few_places;
       atoms = cases.atoms;
     };
@@ -216,25 +212,25 @@ some_last a [] i h le e = cc
 some_last a (s ∷ ss) zero h le e = omega arith
 some_last a (s ∷ ss) (suc i) h le e = some_last a ss i h.1 (omega arith) (sym (ap (λ (b : Bool). b || list_any (is_last_in a) ss) h.0) ∙ e)
 
-pub can_writable : (a : Automaton) (t : TableView) (states : List (Option Known)) (numbers : List ℕ) (g : ℕ) (rights : List State) (places heads_ : List Place) (ks : List Choice) → CanWrite a t states numbers g → rights ≡ (row_at t.rows g).rights
-    → new_numbers places ≡ all_places 1 (map (sorts_at states) rights) → heads_ ≡ places → ks ≡ (row_at t.rows g).choices → AllByRecursion (IsWritable t.nodes (length numbers) (length heads_)) ks
-can_writable a t states numbers g rights places heads_ ks w e f h q =
-    let y = typed_all w.program w.cells states w.known (row_at t.rows g).rights (w.types).rights in
-    let count = places_heads (names_of (program_tree w.program)) a (continuation_of (w.program).types w.cells) (w.mirrors).moves (row_at t.rows g).rights y.types y.typed in
+pub can_writable : (c : CellsView) (a : Automaton) (t : TableView) (states : List (Option TypeId)) (numbers : List ℕ) (g : ℕ) (rights : List State) (places heads_ : List Place) (ks : List Choice) → CanWrite c a t states numbers g → rights ≡ (row_at t.rows g).rights
+    → new_numbers places ≡ all_places 1 (map (sorts_at c) rights) → heads_ ≡ places → ks ≡ (row_at t.rows g).choices → AllByRecursion (IsWritable t.nodes (length numbers) (length heads_)) ks
+can_writable c a t states numbers g rights places heads_ ks w e f h q =
+    let y = typed_all w.program c a states w.mirrors w.known (row_at t.rows g).rights (w.types).rights in
+    let count = places_heads (names_of (program_tree w.program)) a (continuation_of (w.program).types c) (w.mirrors).moves (row_at t.rows g).rights y.types y.typed in
     let same : length heads_ ≡ length (claim_heads (heads_of a) (claim_of (row_at t.rows g))) =
-    ap length h ∙ sym (new_numbers-length places) ∙ ap length (f ∙ (ap (λ (ss : List State). all_places 1 (map (sorts_at states) ss)) e ∙ ap (all_places 1) y.sorts)) ∙ count in
+    ap length h ∙ sym (new_numbers-length places) ∙ ap length (f ∙ (ap (λ (ss : List State). all_places 1 (map (sorts_at c) ss)) e ∙ ap (all_places 1) y.sorts)) ∙ count in
     subst (AllByRecursion (IsWritable t.nodes (length numbers) (length heads_))) (sym q)
     (subst (λ (n : ℕ). AllByRecursion (IsWritable t.nodes (length numbers) n) (row_at t.rows g).choices) (sym same) w.writable)
 
 -- what was found of the rights
-module _ (states : List (Option Known)) (rights : List State) (sorts given : List (Bor (List Bool))) (same : given ≡ sorts) (found : map (λ (b : Bor (List Bool)). b.now) sorts ≡ map (sorts_at states) rights) where
-  pub places_kept : (places : List ℕ) → places ≡ all_places 1 (map (λ (b : Bor (List Bool)). b.now) given) → places ≡ all_places 1 (map (sorts_at states) rights)
+module _ (c : CellsView) (rights : List State) (sorts given : List (Bor (List Bool))) (same : given ≡ sorts) (found : map (λ (b : Bor (List Bool)). b.now) sorts ≡ map (sorts_at c) rights) where
+  pub places_kept : (places : List ℕ) → places ≡ all_places 1 (map (λ (b : Bor (List Bool)). b.now) given) → places ≡ all_places 1 (map (sorts_at c) rights)
   places_kept places e = e ∙ (ap (λ (bs : List (Bor (List Bool))). all_places 1 (map (λ (b : Bor (List Bool)). b.now) bs)) same ∙ ap (all_places 1) found)
 
   pub few_kept : (row : List State) → rights ≡ row → AreFew given → AreFew row
   few_kept row e few =
       subst (λ (n : ℕ). n < 10 ^ 18)
-      (ap length same ∙ sym (length-mapped (λ (b : Bor (List Bool)). b.now) sorts) ∙ ap length found ∙ length-mapped (sorts_at states) rights ∙ ap length e) few
+      (ap length same ∙ sym (length-mapped (λ (b : Bor (List Bool)). b.now) sorts) ∙ ap length found ∙ length-mapped (sorts_at c) rights ∙ ap length e) few
 
 pub zip_more : {B : Type 0} (R : ℕ → B → Type 0) (xs : List ℕ) (i : ℕ) (ys ys2 : List B) (y : B) → i < length xs → AllZip R (take i xs) ys → R (get_or xs i 0) y → ys2 ≡ ys ++ y ∷ [] → AllZip R (take (i + 1) xs) ys2
 zip_more {B} R xs i ys ys2 y lt z r e =
@@ -245,12 +241,6 @@ zip_more {B} R xs i ys ys2 y lt z r e =
     push [] (v ∷ vs) w = absurd w
     push (u ∷ us) [] w = absurd w
     push (u ∷ us) (v ∷ vs) w = (w.0, push us vs w.1)
-
--- what a list maps to, with one more element
-pub map_more : {X Y : Type 0} (f : X → Y) (xs : List X) (i : ℕ) (x : X) (y : Y) (made : List Y) → i < length xs → x ≡ get_or xs i x → y ≡ f x → made ≡ map f (take i xs) → made ++ y ∷ [] ≡ map f (take (i + 1) xs)
-map_more f xs i x y made lt at is before =
-    ap (λ ys. ys ++ y ∷ []) before ∙ ap (λ w. map f (take i xs) ++ w ∷ []) (is ∙ ap f at) ∙ sym (map-append f (take i xs) (get_or xs i x ∷ []))
-    ∙ ap (map f) (sym (take_more xs i x lt))
 
 pub take_past : (xs : List ℕ) (i : ℕ) → length xs ≤ i → take i xs ≡ xs
 take_past [] zero le = refl

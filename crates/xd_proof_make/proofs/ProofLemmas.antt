@@ -43,7 +43,7 @@ use Rattle.xd_proof_make.specs.Met.{IsMet, AreReached, LeadsTo, number_in}
 use Rattle.xd_proof_make.specs.Few.{AreFew, IsSmall}
 use Rattle.xd_proof_make.specs.Known.{AreKnown}
 use Rattle.xd_proof_make.specs.Made.{CanWrite, HasTypes, IsBetween, IsGoalMade, IsOfTypes, IsProofOf, IsTypedRow}
-use Rattle.xd_proof_make.specs.declared.states.Known.{Known}
+use Rattle.xd_syntax.specs.declared.types.TypeId.{TypeId}
 use Rattle.xd_proof_make.proofs.WrittenGoalLemmas.{goal_keeps}
 use Rattle.xd_proof_make.proofs.SmallNumbers.{some_there, goals_writable, distinct_below, some_types}
 use Rattle.xd_proof_make.proofs.ProofGoalLemmas.{all_writable}
@@ -93,7 +93,7 @@ pub record IsFit (a : Automaton) (t : TableView) (c : CellsView) (g : ℕ) : Typ
 
 module _ (p : ProgramTable) (c : CellsView) (a : Automaton) (t : TableView) (stands : FactsOnAutomaton a t) (start : ℕ) (order numbers : List ℕ) (reached : AreReached t start order numbers)
     (made : List ProofGoal) (z : AllZip (λ g m. IsGoalMade p c a t.nodes numbers (row_at t.rows g) m) order made) (m : Mirrors p c a) (sound : IsSound (program_tree p))
-    (few_goals : AreFew made) (states : List (Option Known)) (few_states : AreFew states) (sized : length states ≡ length a) (fit : AllByRecursion (IsFit a t c) order) where
+    (few_goals : AreFew made) (states : List (Option TypeId)) (few_states : AreFew states) (sized : length states ≡ length a) (fit : AllByRecursion (IsFit a t c) order) where
   abbrev E : Definitions
   E = names_of (program_tree p)
 
@@ -219,30 +219,30 @@ all_typed_rows a t c order n e h =
       rights_there = subst (λ (k : ℕ). AllByRecursion (λ (s : State). s.number < k) (row_at t.rows g).rights) (sym e) (x.below).rights;
     }) h
 
-pub all_can : (p : ProgramTable) (c : CellsView) (a : Automaton) (t : TableView) (states : List (Option Known)) (numbers order : List ℕ) → FactsOnAutomaton a t → length numbers ≡ length t.rows → Mirrors p c a → AreKnown p c states
-    → AllByRecursion (IsFit a t c) order → AllByRecursion (λ g. HasTypes states (row_at t.rows g)) order → AllByRecursion (CanWrite a t states numbers) order
+pub all_can : (p : ProgramTable) (c : CellsView) (a : Automaton) (t : TableView) (states : List (Option TypeId)) (numbers order : List ℕ) → FactsOnAutomaton a t → length numbers ≡ length t.rows → Mirrors p c a → AreKnown p c states
+    → AllByRecursion (IsFit a t c) order → AllByRecursion (λ g. HasTypes states (row_at t.rows g)) order → AllByRecursion (CanWrite c a t states numbers) order
 all_can p c a t states numbers order stands sized m k fit types =
-    all_both (IsFit a t c) (λ g. HasTypes states (row_at t.rows g)) (CanWrite a t states numbers) order
+    all_both (IsFit a t c) (λ g. HasTypes states (row_at t.rows g)) (CanWrite c a t states numbers) order
     (λ g x y. record {
       left_there = (x.below).left;
       rights_there = (x.below).rights;
       begun = x.begun;
       writable = all_writable a t (length numbers) (claim_of (row_at t.rows g)) (row_at t.rows g).choices sized (choices_keep a t stands g);
+      of_types = x.types;
       types = y;
       program = p;
-      cells = c;
       mirrors = m;
       known = k;
     }) fit types
 
 -- ---- what was made, over the slices that were handed on
 
-pub all_made : (p : ProgramTable) (c : CellsView) (a : Automaton) (t : TableView) (states states2 : List (Option Known)) (numbers numbers2 order order2 : List ℕ) (made : List ProofGoal)
-    → ((q : ProgramTable) (d : CellsView) → Mirrors q d a → AreKnown q d states2 → AllZip (λ g m. IsGoalMade q d a t.nodes numbers2 (row_at t.rows g) m) order2 made) → states2 ≡ states → numbers2 ≡ numbers → order2 ≡ order
+pub all_made : (p : ProgramTable) (c : CellsView) (a : Automaton) (t : TableView) (states states2 : List (Option TypeId)) (numbers numbers2 order order2 : List ℕ) (made : List ProofGoal)
+    → ((q : ProgramTable) → Mirrors q c a → AreKnown q c states2 → AllZip (λ g m. IsGoalMade q c a t.nodes numbers2 (row_at t.rows g) m) order2 made) → states2 ≡ states → numbers2 ≡ numbers → order2 ≡ order
     → Mirrors p c a → AreKnown p c states → AllZip (λ g m. IsGoalMade p c a t.nodes numbers (row_at t.rows g) m) order made
 all_made p c a t states states2 numbers numbers2 order order2 made f e g h m k =
     subst (λ (xs : List ℕ). AllZip (λ i x. IsGoalMade p c a t.nodes numbers (row_at t.rows i) x) xs made) h
-    (subst (λ (ns : List ℕ). AllZip (λ i x. IsGoalMade p c a t.nodes ns (row_at t.rows i) x) order2 made) g (f p c m (subst (AreKnown p c) (sym e) k)))
+    (subst (λ (ns : List ℕ). AllZip (λ i x. IsGoalMade p c a t.nodes ns (row_at t.rows i) x) order2 made) g (f p m (subst (AreKnown p c) (sym e) k)))
 
 pub all_fit_lines : (p : ProgramTable) (c : CellsView) (a : Automaton) (nodes : List ChoiceNode) (numbers : List ℕ) (rows : List GoalRow) (order : List ℕ) (made : List ProofGoal) → AllZip (λ g m. IsGoalMade p c a nodes numbers (row_at rows g) m) order made
     → AllByRecursion LinesFit made

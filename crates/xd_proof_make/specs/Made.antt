@@ -31,7 +31,7 @@ use Rattle.xd_proof_make.specs.Met.{AreReached, number_in}
 use Rattle.xd_proof_make.specs.Few.{IsSmall}
 use Rattle.xd_proof_make.specs.Known.{AreKnown, HasKnown}
 use Rattle.xd_proof_make.specs.Ordered.{IsWritable}
-use Rattle.xd_proof_make.specs.declared.states.Known.{Known}
+use Rattle.xd_syntax.specs.declared.types.TypeId.{TypeId}
 
 -- the left and the rights are states of types
 pub record IsOfTypes (c : CellsView) (row : GoalRow) : Type 0 where
@@ -81,21 +81,21 @@ pub record IsTypedRow (c : CellsView) (states : ℕ) (row : GoalRow) : Type 0 wh
   pub left_there : row.left.number < states
   pub rights_there : AllByRecursion (λ (s : State). s.number < states) row.rights
 
-pub record HasTypes (states : List (Option Known)) (row : GoalRow) : Type 0 where
+pub record HasTypes (states : List (Option TypeId)) (row : GoalRow) : Type 0 where
   pub left : HasKnown states row.left
   pub rights : AllByRecursion (HasKnown states) row.rights
 
 -- a row that has its choices, by the rules, and whose states are known
-pub record CanWrite (a : Automaton) (t : TableView) (states : List (Option Known)) (numbers : List ℕ) (g : ℕ) : Type 0 where
+pub record CanWrite (c : CellsView) (a : Automaton) (t : TableView) (states : List (Option TypeId)) (numbers : List ℕ) (g : ℕ) : Type 0 where
   pub left_there : (row_at t.rows g).left.number < length a
   pub rights_there : AreBelow (length a) (row_at t.rows g).rights
   pub begun : IsBegun a (claim_of (row_at t.rows g)) (row_at t.rows g).choices
   pub writable : AllByRecursion (IsWritable t.nodes (length numbers) (length (right_heads (heads_of a) (claim_of (row_at t.rows g))))) (row_at t.rows g).choices
+  pub of_types : IsOfTypes c (row_at t.rows g)
   pub types : HasTypes states (row_at t.rows g)
   pub program : ProgramTable
-  pub cells : CellsView
-  pub mirrors : Mirrors program cells a
-  pub known : AreKnown program cells states
+  pub mirrors : Mirrors program c a
+  pub known : AreKnown program c states
 
 -- the goal is written from the row
 pub record IsGoalMade (p : ProgramTable) (c : CellsView) (a : Automaton) (nodes : List ChoiceNode) (numbers : List ℕ) (row : GoalRow) (made : ProofGoal) : Type 0 where

@@ -1,17 +1,7 @@
 -- Numbers of heads: a table counts a state's moves on elements first and then those on texts, a
 -- proof counts the heads of a type in order.
 use Rattle.std.specs.Prelude.{ℕ, zero, suc, ◌+◌, Bool, true, false, cond, not, List, [], ◌∷◌, ◌++◌, map, length, slice_index_or}
-use Rattle.xd_syntax.specs.Tree.{Tree}
-use Rattle.xd_rules.specs.Heads.{Head, HeadKind, element_in, text_in}
 use Rattle.xd_proof_make.specs.declared.places.Place.{Place}
-
-abbrev pub is_text : HeadKind → Bool
-is_text (element_in c) = false
-is_text (text_in w) = true
-
--- which heads are texts
-abbrev pub sorts_of : List (Head Tree) → List Bool
-sorts_of hs = map (λ (h : Head Tree). is_text h.kind) hs
 
 -- the numbers of the texts, or of the elements, among heads of these sorts that are counted from n
 abbrev pub numbers_of : (texts : Bool) → ℕ → List Bool → List ℕ

@@ -9,15 +9,15 @@ ghost use Rattle.xd_heads.specs.CellsView.{CellsView};
 ghost use Rattle.xd_heads.specs.Growing.{GrowsTypes};
 ghost use Rattle.xd_heads.specs.Mirrors.{IsTypeState, Mirrors};
 ghost use Rattle.xd_syntax.specs.Kept.{ProgramTable};
-ghost use Rattle.xd_proof_make.specs.Few.{AreFew};
+ghost use Rattle.xd_proof_make.specs.Few.{AreFew, AreFewMoves};
 ghost use Rattle.xd_proof_make.specs.Known.{AreKnown, HasKnown, IsIdOf, KeepsKnown};
 ghost use Rattle.xd_proof_make.specs.Made.{CanWrite, HasTypes, IsEmptyRight, IsGoalMade, IsTypedRow};
 
 use crate::cases::write_cases;
 use crate::places::{all_sorts, right_places};
-use crate::states::{Known, known_of, learn, learn_all};
+use crate::states::{learn, learn_all, type_of};
 use std::alloc::Global;
-use xd_auto::{Auto, State};
+use xd_auto::{Auto, LabelMove, State, TextMove};
 use xd_doc::NoMemory;
 use xd_goals::{GoalId, Table};
 use xd_heads::Cells;
@@ -46,7 +46,7 @@ fn empty_right(auto: &Auto, left: State, rights: &[State]) -> Option<u64>
 /// The types of states.
 fn type_ids(
     alloc: Global,
-    states: &[Option<Known>],
+    states: &[Option<TypeId>],
     wanted: &[State],
 ) -> Result<Vec<TypeId>, NoMemory>
     requires { AllByRecursion (HasKnown states.now) wanted.now }
@@ -54,41 +54,48 @@ fn type_ids(
 {
     let mut ids = Vec::new(alloc);
     for state in wanted {
-        ids.push(known_of(states, *state).id)?;
+        ids.push(type_of(states, *state))?;
     }
     Ok(ids)
 }
 
+/// No more moves fit into memory.
+fn see_few_moves(labels: &[LabelMove], texts: &[TextMove])
+    ensures { AreFewMoves labels.now texts.now }
+{}
+
 /// A goal of the table as a goal of a proof, where goals have these numbers.
 fn write_goal(
     alloc: Global,
+    cells: &Cells,
     auto: &Auto,
     table: &Table,
-    states: &[Option<Known>],
+    states: &[Option<TypeId>],
     numbers: &[usize],
     goal: GoalId,
 ) -> Result<ProofGoal, NoMemory>
     requires there { goal.number < length table.now.rows }
-    requires can { CanWrite auto.now table.now states.now numbers.now goal.number }
-    ensures { IfOk result (λ made. (p : ProgramTable) (c : CellsView) → Mirrors p c auto.now → AreKnown p c states.now → IsGoalMade p c auto.now table.now.nodes numbers.now (row_at table.now.rows goal.number) made) }
+    requires can { CanWrite cells.now auto.now table.now states.now numbers.now goal.number }
+    ensures { IfOk result (λ made. (p : ProgramTable) → Mirrors p cells.now auto.now → AreKnown p cells.now states.now → IsGoalMade p cells.now auto.now table.now.nodes numbers.now (row_at table.now.rows goal.number) made) }
 {
     let left = table.left(goal);
     let rights = table.rights(goal);
-    let known = known_of(states, left);
-    let sorts = all_sorts(alloc, states, rights)?;
+    let sorts = all_sorts(alloc, cells, rights)?;
     let places = right_places(alloc, &sorts)?;
+    let labels = auto.label_moves(left);
+    see_few_moves(labels, auto.text_moves(left));
     let cases = write_cases(
         alloc,
         table,
         numbers,
         &places,
-        &known.sorts,
-        auto.label_moves(left).len(),
+        cells.sorts(left),
+        labels.len(),
         table.choices(goal),
     )?;
     Ok(ProofGoal {
         line: 1,
-        left: known.id,
+        left: type_of(states, left),
         rights: type_ids(alloc, states, rights)?,
         empty_right: empty_right(auto, left, rights),
         cases,
@@ -103,34 +110,34 @@ fn see_few(goals: &[ProofGoal])
 /// Goals of the table as goals of a proof.
 pub(crate) fn write_goals(
     alloc: Global,
+    cells: &Cells,
     auto: &Auto,
     table: &Table,
-    states: &[Option<Known>],
+    states: &[Option<TypeId>],
     numbers: &[usize],
     goals: &[usize],
 ) -> Result<Vec<ProofGoal>, NoMemory>
     requires there { AllByRecursion (λ g. g < length table.now.rows) goals.now }
-    requires can { AllByRecursion (CanWrite auto.now table.now states.now numbers.now) goals.now }
-    ensures made { IfOk result (λ made. (p : ProgramTable) (c : CellsView) → Mirrors p c auto.now → AreKnown p c states.now → AllZip (λ g m. IsGoalMade p c auto.now table.now.nodes numbers.now (row_at table.now.rows g) m) goals.now made.items) }
+    requires can { AllByRecursion (CanWrite cells.now auto.now table.now states.now numbers.now) goals.now }
+    ensures made { IfOk result (λ made. (p : ProgramTable) → Mirrors p cells.now auto.now → AreKnown p cells.now states.now → AllZip (λ g m. IsGoalMade p cells.now auto.now table.now.nodes numbers.now (row_at table.now.rows g) m) goals.now made.items) }
     ensures few_goals { IfOk result (λ made. AreFew made.items) }
     ensures few_states { AreFew states.now }
 {
     let mut made = Vec::new(alloc);
     for number in goals {
         let goal = table.goal(*number);
-        made.push(write_goal(alloc, auto, table, states, numbers, goal)?)?;
+        made.push(write_goal(alloc, cells, auto, table, states, numbers, goal)?)?;
     }
     see_few(&made);
     Ok(made)
 }
 
-/// Finds out about the states of goals.
+/// Finds the types of the states of goals.
 pub(crate) fn learn_goals(
-    alloc: Global,
     sound: &mut SoundProgram,
     cells: &Cells,
     table: &Table,
-    states: &mut Vec<Option<Known>>,
+    states: &mut Vec<Option<TypeId>>,
     goals: &[usize],
 ) -> Result<(), NoMemory>
     requires mirrors { (a : Automaton) × Mirrors sound.old cells.now a }
@@ -143,8 +150,8 @@ pub(crate) fn learn_goals(
 {
     for number in goals {
         let goal = table.goal(*number);
-        learn(alloc, sound, cells, states, table.left(goal))?;
-        learn_all(alloc, sound, cells, states, table.rights(goal))?;
+        learn(sound, cells, states, table.left(goal))?;
+        learn_all(sound, cells, states, table.rights(goal))?;
     }
     Ok(())
 }

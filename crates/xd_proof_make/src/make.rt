@@ -49,10 +49,11 @@ pub fn proof_of(
     table.see_lists();
     let reached = reach(alloc, table, goal)?;
     let mut states = nothing_known(alloc, auto.len())?;
-    learn_goals(alloc, sound, cells, table, &mut states, &reached.order)?;
+    learn_goals(sound, cells, table, &mut states, &reached.order)?;
     let _program = sound.program();
     let goals = write_goals(
         alloc,
+        cells,
         auto,
         table,
         &states,

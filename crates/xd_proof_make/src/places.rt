@@ -2,14 +2,16 @@
 
 ghost use Rattle.std.specs.Prelude.{◌≡◌, ◌<◌, ◌+◌, ◌++◌, ◌^◌, cond, not, map, length, IfOk, OnOk};
 ghost use Rattle.std.specs.List.{AllByRecursion};
+ghost use Rattle.xd_auto.specs.Automaton.{Automaton};
+ghost use Rattle.xd_heads.specs.Mirrors.{IsTypeState, Mirrors, sorts_at};
+ghost use Rattle.xd_syntax.specs.Kept.{ProgramTable};
 ghost use Rattle.xd_proof_make.specs.Few.{AreFew};
-ghost use Rattle.xd_proof_make.specs.Known.{HasKnown, sorts_at};
 ghost use Rattle.xd_proof_make.specs.Places.{all_places, new_numbers, numbers_of};
 
-use crate::states::{Known, known_of};
 use std::alloc::Global;
 use xd_auto::State;
 use xd_doc::NoMemory;
+use xd_heads::Cells;
 
 /// A right head: its number in a proof, and whether it is a text. It takes two words, so that fewer
 /// fit into memory than there are numbers that a proof text can spell.
@@ -50,15 +52,16 @@ fn add_places(
 /// Of each state, which of its heads are texts.
 pub(crate) fn all_sorts<'a>(
     alloc: Global,
-    states: &'a [Option<Known>],
+    cells: &'a Cells,
     wanted: &[State],
 ) -> Result<Vec<&'a [bool]>, NoMemory>
-    requires { AllByRecursion (HasKnown states.now) wanted.now }
-    ensures { IfOk result (λ made. map (λ sorts. sorts.now) made.items ≡ map (sorts_at states.now) wanted.now) }
+    requires mirrors { (p : ProgramTable) × (a : Automaton) × Mirrors p cells.now a }
+    requires states { AllByRecursion (IsTypeState cells.now) wanted.now }
+    ensures { IfOk result (λ made. map (λ sorts. sorts.now) made.items ≡ map (sorts_at cells.now) wanted.now) }
 {
     let mut made = Vec::new(alloc);
     for state in wanted {
-        made.push(known_of(states, *state).sorts.as_slice())?;
+        made.push(cells.sorts(*state))?;
     }
     Ok(made)
 }

@@ -1,4 +1,4 @@
-use Rattle.std.proofs.Common.{◌<◌, ℕ, zero, suc, List, [], ◌∷◌, length, take, get_or, arith, refl, sym, subst, ◌∙◌}
+use Rattle.std.proofs.Common.{ap, map, ◌<◌, ℕ, zero, suc, List, [], ◌∷◌, length, take, get_or, arith, refl, sym, subst, ◌∙◌}
 use Rattle.std.specs.List.{AllByRecursion}
 use Rattle.std.proofs.lemmas.List.{take_more, take_all}
 use Rattle.xd_syntax.specs.Table.{Row}
@@ -8,6 +8,11 @@ use Rattle.xd_moves.specs.Cells.{Cell}
 use Rattle.xd_moves.specs.declared.expansion.Found.{Found}
 use Rattle.xd_continuations.proofs.ChainLemmas.{kept_length}
 use Rattle.xd_heads.proofs.SparesLemmas.{others_same, others_then}
+use Rattle.xd_doc.proofs.Lists.{all_more}
+use Rattle.xd_continuations.specs.Continuation.{head_of}
+use Rattle.xd_heads.specs.Compiled.{is_on_text}
+use Rattle.xd_heads.specs.Sorts.{sorts_of}
+use Rattle.xd_heads.proofs.AreSortedLemmas.{found_sorts}
 use Rattle.xd_heads.proofs.AddingMoves.{IsAdding, adding_none, adding_more, moves_added}
 use Rattle.xd_heads.proofs.compile.add_moves.Goals as goal
 
@@ -71,3 +76,14 @@ returns-clause-moves c =
     moves_added types c.args.sources.now.defs.now c.args.made.now.cells c.expand.new.cells c.loop-one.made.cells c.args.made.now.states c.loop-one.made.states c.args.auto.now c.loop-one.auto' c.args.from c.args.number
     c.in_ok-found.found.items c.requires.number c.in_ok-found.ensures.moves
     (subst (IsAdding types c.args.sources.now.defs.now c.expand.new.cells c.loop-one.made.cells c.args.made.now.states c.loop-one.made.states c.args.auto.now c.loop-one.auto' c.args.from) e c.loop-one.invariant.0) c.requires.from
+
+pub sorts_of-requires : goal.sorts_of-requires
+sorts_of-requires c =
+    all_more (IsFound c.args.sources.now.types.now c.expand.new.cells) (λ (f : Found). f.node < length c.args.sources.now.types.now) c.deref.result.now (λ f i. i.0)
+    (subst (AllByRecursion (IsFound c.args.sources.now.types.now c.expand.new.cells)) (sym c.deref.ensures.value) c.in_ok-found.ensures.moves.stand)
+
+pub returns-clause-sorts : goal.returns-clause-sorts
+returns-clause-sorts c =
+    let types = c.args.sources.now.types.now in
+    c.in_ok-sorts.ensures ∙ ap (map (is_on_text types)) c.deref.ensures.value ∙ found_sorts types c.expand.new.cells c.in_ok-found.found.items
+    ∙ ap (λ ms. sorts_of (map head_of ms)) c.in_ok-found.ensures.moves.same

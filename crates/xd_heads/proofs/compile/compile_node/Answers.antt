@@ -3,9 +3,11 @@ use Rattle.xd_meaning.specs.Heads.{pieces}
 use Rattle.xd_syntax.specs.Table.{tree_at}
 use Rattle.xd_syntax.specs.TypeText.{depth}
 use Rattle.xd_syntax.specs.Shallow.{nesting_limit}
-use Rattle.xd_heads.specs.Compiled.{IsOfState, AreCompiled}
+use Rattle.xd_heads.specs.Compiled.{IsOfState, AreCompiled, AreSorted}
+use Rattle.xd_heads.specs.Sorts.{rows_of}
 use Rattle.xd_continuations.proofs.MoveLemmas.{pieces_stand, seq_of-pieces}
-use Rattle.xd_heads.proofs.AddingMoves.{type_started, type_bounded, type_compiled, type_continues, type_accepts}
+use Rattle.xd_heads.proofs.AddingMoves.{type_started, type_states, type_bounded, type_compiled, type_continues, type_accepts}
+use Rattle.xd_heads.proofs.AreSortedLemmas.{sorted_more}
 use Rattle.xd_heads.proofs.SparesLemmas.{spares_both}
 use Rattle.xd_heads.proofs.compile.compile_node.Goals as goal
 
@@ -17,6 +19,16 @@ compile-requires-clause-compiled c =
     subst (λ n. AreCompiled types c.args.sources.now.defs.now c.content.new.cells c.state_of.new.states c.state_of.new.auto n []) (sym c.len-first.ensures.count)
     (type_started types c.args.sources.now.defs.now c.args.made.now.cells c.content.new.cells c.args.made.now.states c.state_of.new.states c.args.auto.now c.state_of.new.auto (pieces (tree_at types c.args.part.at))
     c.in_ok-inside.inside c.in_ok-state.state good c.in_ok-inside.ensures.content c.in_ok-state.ensures.got c.requires.compiled)
+
+pub compile-requires-clause-sorted : goal.compile-requires-clause-sorted
+compile-requires-clause-sorted c =
+    let types = c.args.sources.now.types.now in
+    let ds = c.args.sources.now.defs.now in
+    let added = type_states types ds c.args.made.now.cells c.content.new.cells c.args.made.now.states c.state_of.new.states c.args.auto.now c.state_of.new.auto (pieces (tree_at types c.args.part.at))
+    c.in_ok-inside.inside c.in_ok-state.state c.in_ok-inside.ensures.content c.in_ok-state.ensures.got in
+    subst (AreSorted types ds c.content.new.cells c.state_of.new.states (rows_of c.args.rows.now.items)) (sym c.len-first.ensures.count)
+    (sorted_more types ds c.args.made.now.cells c.content.new.cells c.args.made.now.states c.state_of.new.states (rows_of c.args.rows.now.items) (length c.args.made.now.states)
+    c.in_ok-inside.ensures.content.cells.kept added c.requires.compiled.numbers (omega arith) c.requires.sorted)
 
 pub compile-requires-clause-bounded : goal.compile-requires-clause-bounded
 compile-requires-clause-bounded c =

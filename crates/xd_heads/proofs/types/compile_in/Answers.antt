@@ -12,14 +12,15 @@ use Rattle.xd_continuations.proofs.IsMergedLemmas.{tree_merged}
 use Rattle.xd_continuations.proofs.MoveLemmas.{seq_of-pieces}
 use Rattle.xd_continuations.proofs.SoundTail.{recurs_only_in_tail}
 use Rattle.xd_heads.specs.CellsView.{CellsView}
-use Rattle.xd_heads.specs.Compiled.{AreCompiled, AreAllCompiled}
+use Rattle.xd_heads.specs.Compiled.{AreCompiled, AreAllCompiled, AreSorted}
+use Rattle.xd_heads.specs.Sorts.{rows_of}
 use Rattle.xd_moves.specs.Found.{AreDecidingMarks}
 use Rattle.xd_heads.specs.Mirrors.{as_type, continuation_of, KeepsStates, Mirrors}
 use Rattle.xd_continuations.specs.Bodies.{AreBodies}
 use Rattle.xd_syntax.proofs.KeptLaws.{along, back_along}
 use Rattle.xd_continuations.proofs.GrownTables.{bodies_stand}
 use Rattle.xd_continuations.proofs.Bodied.{are_bodies}
-use Rattle.xd_heads.proofs.Mirrored.{to_compiled}
+use Rattle.xd_heads.proofs.Mirrored.{to_compiled, to_sorted}
 use Rattle.xd_heads.proofs.KeepsStatesLemmas.{are_merged, marks_decide, compiled_keeps, compiled_mirrors_again}
 use Rattle.xd_heads.proofs.types.compile_in.Goals as goal
 
@@ -50,9 +51,17 @@ compile_node-requires-clause-merged_part c =
 pub compile_node-requires-clause-compiled : goal.compile_node-requires-clause-compiled
 compile_node-requires-clause-compiled c =
     let p = c.args.program.now in
-    let v : CellsView = record { cells = c.cells.inside.made.cells; states = c.cells.inside.made.states } in
+    let v : CellsView = record { cells = c.cells.inside.made.cells; states = c.cells.inside.made.states; sorts = rows_of c.cells.inside.rows.items } in
     along p c.types-types.result.now c.type_defs.result.now (λ t d. AreCompiled t d v.cells v.states c.args.auto.now (length v.states) []) c.types-types.ensures.types c.type_defs.ensures.type_defs
     (to_compiled p v c.args.auto.now (are_merged p c.types-types.ensures.stands (subst (AreBuilt false) c.types-types.ensures.types c.see_table.ensures.built))
+    (subst (λ w. Mirrors p w c.args.auto.now) (sym c.cells.view_is) c.requires.mirrors))
+
+pub compile_node-requires-clause-sorted : goal.compile_node-requires-clause-sorted
+compile_node-requires-clause-sorted c =
+    let p = c.args.program.now in
+    let v : CellsView = record { cells = c.cells.inside.made.cells; states = c.cells.inside.made.states; sorts = rows_of c.cells.inside.rows.items } in
+    along p c.types-types.result.now c.type_defs.result.now (λ t d. AreSorted t d v.cells v.states v.sorts (length v.states)) c.types-types.ensures.types c.type_defs.ensures.type_defs
+    (to_sorted p v c.args.auto.now (are_merged p c.types-types.ensures.stands (subst (AreBuilt false) c.types-types.ensures.types c.see_table.ensures.built))
     (subst (λ w. Mirrors p w c.args.auto.now) (sym c.cells.view_is) c.requires.mirrors))
 
 pub compile_node-requires-clause-bodies : goal.compile_node-requires-clause-bodies
@@ -69,7 +78,7 @@ compile_node-requires-clause-marks c =
 
 pub returns-clause-continuation : goal.returns-clause-continuation
 returns-clause-continuation c =
-    let v : CellsView = record { cells = c.compile_node.new.made.cells; states = c.compile_node.new.made.states } in
+    let v : CellsView = record { cells = c.compile_node.new.made.cells; states = c.compile_node.new.made.states; sorts = rows_of c.compile_node.new.rows.items } in
     let types = c.types-types.result.now in
     let merged = tree_merged types c.see_table.ensures.built c.args.id.at (subst (λ (t : List Row). c.args.id.at < length t) (sym c.types-types.ensures.types) c.requires.belongs) in
     subst (λ (t : List Row). continuation_of t v c.in_ok-state.state ≡ Some (tree_at t c.args.id.at)) c.types-types.ensures.types
@@ -78,8 +87,8 @@ returns-clause-continuation c =
 pub returns-clause-owners : goal.returns-clause-owners
 returns-clause-owners c =
     let p = c.args.program.now in
-    let w : CellsView = record { cells = c.cells.inside.made.cells; states = c.cells.inside.made.states } in
-    let v : CellsView = record { cells = c.compile_node.new.made.cells; states = c.compile_node.new.made.states } in
+    let w : CellsView = record { cells = c.cells.inside.made.cells; states = c.cells.inside.made.states; sorts = rows_of c.cells.inside.rows.items } in
+    let v : CellsView = record { cells = c.compile_node.new.made.cells; states = c.compile_node.new.made.states; sorts = rows_of c.compile_node.new.rows.items } in
     let all = back_along p c.types-types.result.now c.type_defs.result.now (λ t d. AreAllCompiled t d w.cells v.cells w.states v.states c.compile_node.new.auto) c.types-types.ensures.types c.type_defs.ensures.type_defs
     c.in_ok-state.ensures.compiled in
     subst (λ (x : CellsView). KeepsStates p.types p.types x v) c.cells.view_is
@@ -89,9 +98,10 @@ returns-clause-owners c =
 pub returns-clause-mirrors : goal.returns-clause-mirrors
 returns-clause-mirrors c =
     let p = c.args.program.now in
-    let w : CellsView = record { cells = c.cells.inside.made.cells; states = c.cells.inside.made.states } in
-    let v : CellsView = record { cells = c.compile_node.new.made.cells; states = c.compile_node.new.made.states } in
+    let w : CellsView = record { cells = c.cells.inside.made.cells; states = c.cells.inside.made.states; sorts = rows_of c.cells.inside.rows.items } in
+    let v : CellsView = record { cells = c.compile_node.new.made.cells; states = c.compile_node.new.made.states; sorts = rows_of c.compile_node.new.rows.items } in
     let all = back_along p c.types-types.result.now c.type_defs.result.now (λ t d. AreAllCompiled t d w.cells v.cells w.states v.states c.compile_node.new.auto) c.types-types.ensures.types c.type_defs.ensures.type_defs
     c.in_ok-state.ensures.compiled in
     compiled_mirrors_again p w v c.args.auto.now c.compile_node.new.auto c.types-types.ensures.stands (subst (AreBuilt false) c.types-types.ensures.types c.see_table.ensures.built) c.requires.sound
     (subst (λ (x : CellsView). Mirrors p x c.args.auto.now) (sym c.cells.view_is) c.requires.mirrors) all
+    (back_along p c.types-types.result.now c.type_defs.result.now (λ t d. AreSorted t d v.cells v.states v.sorts (length v.states)) c.types-types.ensures.types c.type_defs.ensures.type_defs c.in_ok-state.ensures.sorted)

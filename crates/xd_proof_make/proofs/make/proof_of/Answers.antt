@@ -5,7 +5,7 @@ use Rattle.xd_goals.proofs.Itself.{facts_together, trees_kept}
 use Rattle.xd_heads.proofs.Mirrored.{mirrors_stay}
 use Rattle.xd_proof_make.specs.Few.{AreFew}
 use Rattle.xd_proof_make.specs.Made.{CanWrite, HasTypes, IsGoalMade, IsProofOf, IsTypedRow}
-use Rattle.xd_proof_make.specs.declared.states.Known.{Known}
+use Rattle.xd_syntax.specs.declared.types.TypeId.{TypeId}
 use Rattle.xd_proof_make.proofs.ProofLemmas.{all_can, all_fit, all_fit_lines, all_made, all_there, all_trees, all_typed_rows, holds_there, made_proof, some_made}
 use Rattle.xd_proof_make.proofs.make.proof_of.Goals as goal
 
@@ -36,9 +36,9 @@ write_goals-requires-clause-there c =
 
 pub write_goals-requires-clause-can : goal.write_goals-requires-clause-can
 write_goals-requires-clause-can c =
-    subst (λ (states : List (Option Known)). AllByRecursion (CanWrite c.args.auto.now c.args.table.now states c.deref-3.result.now) c.deref-4.result.now) (sym c.deref-2.ensures.value)
-    (subst (λ (ns : List ℕ). AllByRecursion (CanWrite c.args.auto.now c.args.table.now c.learn_goals.new.states.items ns) c.deref-4.result.now) (sym c.deref-3.ensures.value)
-    (subst (AllByRecursion (CanWrite c.args.auto.now c.args.table.now c.learn_goals.new.states.items c.in_ok-reached.reached.numbers.items)) (sym c.deref-4.ensures.value)
+    subst (λ (states : List (Option TypeId)). AllByRecursion (CanWrite c.args.cells.now c.args.auto.now c.args.table.now states c.deref-3.result.now) c.deref-4.result.now) (sym c.deref-2.ensures.value)
+    (subst (λ (ns : List ℕ). AllByRecursion (CanWrite c.args.cells.now c.args.auto.now c.args.table.now c.learn_goals.new.states.items ns) c.deref-4.result.now) (sym c.deref-3.ensures.value)
+    (subst (AllByRecursion (CanWrite c.args.cells.now c.args.auto.now c.args.table.now c.learn_goals.new.states.items c.in_ok-reached.reached.numbers.items)) (sym c.deref-4.ensures.value)
     (all_can c.learn_goals.new.sound c.args.cells.now c.args.auto.now c.args.table.now c.learn_goals.new.states.items c.in_ok-reached.reached.numbers.items c.in_ok-reached.reached.order.items (facts_together c.args.auto.now c.args.table.now c.see_lists.ensures c.requires.stands)
     c.in_ok-reached.ensures.sized
     (mirrors_stay c.args.sound.now c.learn_goals.new.sound c.args.cells.now c.args.auto.now c.requires.mirrors c.learn_goals.ensures.grows.adds c.learn_goals.ensures.grows.same)
@@ -83,6 +83,6 @@ returns-clause-proof c =
     (c.learn_goals.ensures.known (c.in_ok-states.ensures.known c.args.sound.now c.args.cells.now)))
     (mirrors_stay c.args.sound.now c.learn_goals.new.sound c.args.cells.now c.args.auto.now c.requires.mirrors c.learn_goals.ensures.grows.adds c.learn_goals.ensures.grows.same)
     c.program-program.ensures.sound
-    c.in_ok-goals.ensures.few_goals c.learn_goals.new.states.items (subst (λ (ss : List (Option Known)). AreFew ss) c.deref-2.ensures.value c.write_goals.ensures.few_states) (c.learn_goals.ensures.keeps.sized ∙ (c.in_ok-states.ensures.sized ∙ c.len.ensures.value))
+    c.in_ok-goals.ensures.few_goals c.learn_goals.new.states.items (subst (λ (ss : List (Option TypeId)). AreFew ss) c.deref-2.ensures.value c.write_goals.ensures.few_states) (c.learn_goals.ensures.keeps.sized ∙ (c.in_ok-states.ensures.sized ∙ c.len.ensures.value))
     (all_fit c.args.sound.now c.args.cells.now c.args.auto.now c.args.table.now c.args.goal.number c.in_ok-reached.reached.order.items c.in_ok-reached.reached.numbers.items c.requires.mirrors (facts_together c.args.auto.now c.args.table.now c.see_lists.ensures c.requires.stands)
     c.requires.settled c.requires.types c.in_ok-reached.ensures))
