@@ -144,6 +144,12 @@ FrameStands p ds (Match id scope) =
 abbrev pub FramesStand : ProgramTable → List Document → List Frame → Type 0
 FramesStand p ds fs = AllByRecursion (FrameStands p ds) fs
 
+-- A value is given that the innermost frame waits for; these are the others.
+pub record IsAwaited (p : ProgramTable) (ds : List Document) (fs : List Frame) (f : Frame) (seq : Seq) : Type 0 where
+  pub frames : FramesStand p ds fs
+  pub frame : FrameStands p ds f
+  pub value : BelongsTo ds seq
+
 abbrev pub ControlStands : ProgramTable → List Document → Control → Type 0
 ControlStands p ds (Evaluate id scope) = IsRunnable p id.at × ScopeStands ds scope.bindings.value.items
 ControlStands p ds (Give seq) = BelongsTo ds seq

@@ -10,7 +10,7 @@ ghost use Rattle.xd_eval.specs.Machine.{IsStart};
 ghost use Rattle.xd_eval.specs.Functions.{AreFunctionNames};
 
 use crate::frame::{Control, Ending, Scope};
-use crate::functions::FunctionNames;
+use crate::functions::{FunctionNames, NamedProgram};
 use crate::machine::run;
 use crate::matching::Matching;
 use crate::resuming::bind;
@@ -18,7 +18,7 @@ use std::alloc::Global;
 use xd_doc::{Label, NoMemory, Seq, Store};
 use xd_laws::{accepted_programs_are_safe, bindings_are_in_order};
 use xd_match::Matchers;
-use xd_sound::{Checked, SoundProgram};
+use xd_sound::Checked;
 
 /// What an accepted program comes to on fuel.
 #[derive(Clone, Copy)]
@@ -55,10 +55,14 @@ pub fn evaluate_with<M: Matching>(
     bindings_are_in_order();
     let sound = checked.sound();
     let names = FunctionNames::new(alloc, sound.program().functions())?;
-    let Some(start) = start_of(alloc, sound, &names, store, input)? else {
+    let program = NamedProgram {
+        sound,
+        names: &names,
+    };
+    let Some(start) = start_of(alloc, program, store, input)? else {
         unreachable!()
     };
-    match run(alloc, sound, &names, matching, store, start, fuel - 1)? {
+    match run(alloc, program, matching, store, start, fuel - 1)? {
         Ending::Value(seq, left) => Ok(Outcome::Value(seq, fuel - left)),
         Ending::Spent => Ok(Outcome::Spent),
         Ending::Stuck => unreachable!(),
@@ -93,18 +97,17 @@ pub fn evaluate(
 /// The call of `main` on a document.
 fn start_of(
     alloc: Global,
-    sound: &SoundProgram,
-    names: &FunctionNames,
+    program: NamedProgram<'_>,
     store: &Store,
     input: Seq,
 ) -> Result<Option<Control>, NoMemory>
-    requires names { AreFunctionNames names.now sound.now.functions }
+    requires names { AreFunctionNames program.names.now program.sound.now.functions }
     requires input { BelongsTo store.now input }
-    ensures { IfOk result (IsStart sound.now store.now input) }
+    ensures { IfOk result (IsStart program.entry.sound.now store.now input) }
 {
-    let functions = sound.program().functions();
+    let functions = program.sound.program().functions();
     let main = Label::new(alloc, "main")?;
-    let Some(function) = names.find(functions, &main) else {
+    let Some(function) = program.names.find(functions, &main) else {
         return Ok(None);
     };
     let bound = bind(alloc, function.params(), &[input])?;

@@ -31,6 +31,13 @@ pub(crate) enum Frame {
     Match(ExprId, Scope),
 }
 
+/// What waits for values, the innermost last, and how many calls are left.
+#[derive(Drop)]
+pub(crate) struct Machine {
+    pub frames: Vec<Frame>,
+    pub left: u64,
+}
+
 /// What is done next.
 #[derive(Drop)]
 pub(crate) enum Control {

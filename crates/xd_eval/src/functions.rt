@@ -10,12 +10,20 @@ ghost use Rattle.xd_eval.specs.Functions.{AreFunctionNames, numbered, row_of};
 use std::alloc::Global;
 use std::collections::BTreeMap;
 use xd_doc::{Label, NoMemory};
+use xd_sound::SoundProgram;
 use xd_syntax::Function;
 
 /// The number of each name's first function.
 #[derive(Drop)]
 pub(crate) struct FunctionNames {
     numbers: BTreeMap<Label, usize>,
+}
+
+/// A program, with its functions by name.
+#[derive(Clone, Copy)]
+pub(crate) struct NamedProgram<'a> {
+    pub sound: &'a SoundProgram,
+    pub names: &'a FunctionNames,
 }
 
 impl FunctionNames {

@@ -9,11 +9,11 @@ ghost use Rattle.xd_doc.specs.StoreNodes.{Keeps};
 ghost use Rattle.xd_syntax.specs.ExpressionTable.{shape_at};
 ghost use Rattle.xd_syntax.specs.Exprs.{expr_numbers, clause_numbers};
 ghost use Rattle.xd_eval.specs.Functions.{AreFunctionNames, row_of};
-ghost use Rattle.xd_eval.specs.Machine.{ClausesStand, FrameStands, FramesStand, HasNoneLeft, HasOneMore, IsCall, IsChosen, IsNextPart, IsRunnable, IsSequence, IsStep, PartsStand, ScopeStands, bound_seqs, clause_numbers_of, function_named, parts_of};
+ghost use Rattle.xd_eval.specs.Machine.{ClausesStand, HasNoneLeft, HasOneMore, IsAwaited, IsCall, IsChosen, IsNextPart, IsRunnable, IsStep, ScopeStands, bound_seqs, clause_numbers_of, function_named, parts_of};
 
 use crate::entering::{form_of, part_at};
-use crate::frame::{Control, Frame, Parts, Scope, Step};
-use crate::functions::FunctionNames;
+use crate::frame::{Control, Frame, Machine, Parts, Scope, Step};
+use crate::functions::NamedProgram;
 use crate::matching::Matching;
 use std::alloc::Global;
 use xd_doc::{Label, NoMemory, Seq, Store};
@@ -23,22 +23,18 @@ use xd_syntax::{Clause, ExprForm, ExprId, Function, Param};
 /// What becomes of a value where a frame waited for it.
 pub(crate) fn resume<M: Matching>(
     alloc: Global,
-    sound: &SoundProgram,
-    names: &FunctionNames,
+    program: NamedProgram<'_>,
     matching: &mut M,
     store: &mut Store,
-    frames: &mut Vec<Frame>,
+    machine: &mut Machine,
     frame: Frame,
     seq: Seq,
-    left: &mut u64,
 ) -> Result<Step, NoMemory>
-    requires names { AreFunctionNames names.now sound.now.functions }
-    requires serves { M.serves matching.old sound.now store.old }
-    requires frames { FramesStand sound.now store.old frames.old.items }
-    requires frame { FrameStands sound.now store.old frame }
-    requires seq { BelongsTo store.old seq }
-    ensures step { IfOk result (λ step. IsStep sound.now store.old (frames.old.items ++ frame ∷ []) (Control.Give seq) left.old store.new frames.new.items left.new step) }
-    ensures serves { M.serves matching.new sound.now store.new }
+    requires names { AreFunctionNames program.names.now program.sound.now.functions }
+    requires serves { M.serves matching.old program.sound.now store.old }
+    requires awaited { IsAwaited program.sound.now store.old machine.old.frames.items frame seq }
+    ensures step { IfOk result (λ step. IsStep program.entry.sound.now store.old (machine.old.frames.items ++ frame ∷ []) (Control.Give seq) machine.old.left store.new machine.new.frames.items machine.new.left step) }
+    ensures serves { M.serves matching.new program.entry.sound.now store.new }
     ensures keeps { Keeps store.old store.new }
 {
     matching.stays_serving();
@@ -47,11 +43,13 @@ pub(crate) fn resume<M: Matching>(
             let made = store.elem_node(label, seq, Seq::empty())?;
             Ok(Step::Next(Control::Give(made)))
         }
-        Frame::Sequence(parts) => next_of_sequence(sound, store, frames, parts, seq),
-        Frame::Call(parts) => next_of_call(alloc, sound, names, store, frames, parts, seq, left),
+        Frame::Sequence(parts) => {
+            next_of_sequence(program.sound, store, &mut machine.frames, parts, seq)
+        }
+        Frame::Call(parts) => next_of_call(alloc, program, store, machine, parts, seq),
         Frame::Match(id, scope) => {
-            let clauses = clauses_of(sound, id);
-            let step = choose(alloc, sound, matching, store, clauses, &scope, seq)?;
+            let clauses = clauses_of(program.sound, id);
+            let step = choose(alloc, program.sound, matching, store, clauses, &scope, seq)?;
             Ok(step)
         }
     }
@@ -65,10 +63,7 @@ fn next_of_sequence(
     parts: Parts,
     seq: Seq,
 ) -> Result<Step, NoMemory>
-    requires frames { FramesStand sound.now store.old frames.old.items }
-    requires sequence { IsSequence (shape_at sound.now.exprs parts.expr.at) }
-    requires parts { PartsStand sound.now store.old parts }
-    requires seq { BelongsTo store.old seq }
+    requires { IsAwaited sound.now store.old frames.old.items (Frame.Sequence parts) seq }
     ensures step { IfOk result (λ step. (n : ℕ) → IsStep sound.now store.old (frames.old.items ++ Frame.Sequence parts ∷ []) (Control.Give seq) n store.new frames.new.items n step) }
     ensures keeps { Keeps store.old store.new }
 {
@@ -130,31 +125,26 @@ fn all_parts(sound: &SoundProgram, id: ExprId) -> &[ExprId]
 /// function's body is next.
 fn next_of_call(
     alloc: Global,
-    sound: &SoundProgram,
-    names: &FunctionNames,
+    program: NamedProgram<'_>,
     store: &Store,
-    frames: &mut Vec<Frame>,
+    machine: &mut Machine,
     parts: Parts,
     seq: Seq,
-    left: &mut u64,
 ) -> Result<Step, NoMemory>
-    requires names { AreFunctionNames names.now sound.now.functions }
-    requires frames { FramesStand sound.now store.now frames.old.items }
-    requires call { IsCall (shape_at sound.now.exprs parts.expr.at) }
-    requires parts { PartsStand sound.now store.now parts }
-    requires seq { BelongsTo store.now seq }
-    ensures step { IfOk result (λ step. IsStep sound.now store.now (frames.old.items ++ Frame.Call parts ∷ []) (Control.Give seq) left.old store.now frames.new.items left.new step) }
+    requires names { AreFunctionNames program.names.now program.sound.now.functions }
+    requires awaited { IsAwaited program.sound.now store.now machine.old.frames.items (Frame.Call parts) seq }
+    ensures step { IfOk result (λ step. IsStep program.entry.sound.now store.now (machine.old.frames.items ++ Frame.Call parts ∷ []) (Control.Give seq) machine.old.left store.now machine.new.frames.items machine.new.left step) }
 {
     let mut parts = parts;
-    if let Some((next, scope)) = take_value(sound, &mut parts, seq)? {
-        frames.push(Frame::Call(parts))?;
+    if let Some((next, scope)) = take_value(program.sound, &mut parts, seq)? {
+        machine.frames.push(Frame::Call(parts))?;
         return Ok(Step::Next(Control::Evaluate(next, scope)));
     }
-    if *left == 0 {
+    if machine.left == 0 {
         return Ok(Step::Spent);
     }
-    *left -= 1;
-    match called(sound, names, parts.expr) {
+    machine.left -= 1;
+    match called(program, parts.expr) {
         None => Ok(Step::Stuck),
         Some(function) => {
             let bound = bind(alloc, function.params(), &parts.values)?;
@@ -165,16 +155,16 @@ fn next_of_call(
 }
 
 /// The function that a call names.
-fn called<'a>(sound: &'a SoundProgram, names: &FunctionNames, id: ExprId) -> Option<&'a Function>
-    requires id { IsRunnable sound.now id.at }
-    requires names { AreFunctionNames names.now sound.now.functions }
-    requires call { IsCall (shape_at sound.now.exprs id.at) }
-    ensures found { option_copied result ≡ row_of sound.now.functions (function_named (shape_at sound.now.exprs id.at)) }
-    ensures stands { IfSome (option_copied result) (λ function. IsRunnable sound.now function.body.at) }
+fn called<'a>(program: NamedProgram<'a>, id: ExprId) -> Option<&'a Function>
+    requires id { IsRunnable program.sound.now id.at }
+    requires names { AreFunctionNames program.names.now program.sound.now.functions }
+    requires call { IsCall (shape_at program.sound.now.exprs id.at) }
+    ensures found { option_copied result ≡ row_of program.entry.sound.now.functions (function_named (shape_at program.entry.sound.now.exprs id.at)) }
+    ensures stands { IfSome (option_copied result) (λ function. IsRunnable program.entry.sound.now function.body.at) }
 {
-    let functions = sound.program().functions();
-    match form_of(sound, id) {
-        ExprForm::Call(name, _) => names.find(functions, name),
+    let functions = program.sound.program().functions();
+    match form_of(program.sound, id) {
+        ExprForm::Call(name, _) => program.names.find(functions, name),
         _ => None,
     }
 }

@@ -8,7 +8,7 @@ use Rattle.xd_eval.proofs.evaluation.start_of.Goals as goal
 
 pub returns : goal.returns
 returns c =
-    let p = c.args.sound.now in
+    let p = c.args.program.sound.now in
     let functions = c.functions-functions.ensures.functions ∙ ap (λ (q : ProgramTable). q.functions) c.program.ensures.program in
     started p c.args.store.now c.args.input c.in-Some.function.now c.body.result c.in_ok-scope.scope
     (ap (row_of p.functions) (sym c.in_ok-main.ensures) ∙ ap (λ fs. row_of fs c.in_ok-main.main) (sym functions) ∙ sym c.find.ensures ∙ ap option_copied c.in-Some.is)

@@ -5,5 +5,5 @@ use Rattle.xd_eval.proofs.machine.advance.Goals as goal
 
 pub returns-in_ok-step-in-Evaluate-clause-step : goal.returns-in_ok-step-in-Evaluate-clause-step
 returns-in_ok-step-in-Evaluate-clause-step g c =
-    subst (λ (x : Control). IsStep c.args.sound.now c.args.store.now c.args.frames.now.items x c.args.left.now c.enter.new.store c.enter.new.frames.items c.args.left.now c.in_ok-step-in-Evaluate.step)
-    (sym c.in-Evaluate.is) (c.in_ok-step-in-Evaluate.ensures.step c.args.left.now)
+    subst (λ (x : Control). IsStep c.args.program.sound.now c.args.store.now c.args.machine.now.frames.items x c.args.machine.now.left c.enter.new.store c.enter.new.frames.items c.args.machine.now.left c.in_ok-step-in-Evaluate.step)
+    (sym c.in-Evaluate.is) (c.in_ok-step-in-Evaluate.ensures.step c.args.machine.now.left)

@@ -4,15 +4,15 @@ use Rattle.xd_eval.specs.Machine.{ControlStands, FramesStand, outcome, steps_lef
 use Rattle.xd_eval.proofs.machine.run.Given as goal
 
 -- what comes of the state is what comes of the first one
-abbrev pub invariant-loop-frames : goal.invariant-loop-frames
-invariant-loop-frames g l =
+abbrev pub invariant-steps : goal.invariant-steps
+invariant-steps g l =
     record {
-      same : outcome l.sound l.store l.frames.items l.control l.left ≡ outcome l.sound l.fn.store [] l.fn.start l.fn.calls;
-      control : ControlStands l.sound l.store l.control;
-      frames : FramesStand l.sound l.store l.frames.items;
-      serves : g.M.Matching.serves l.matching l.sound l.store;
+      same : outcome l.program.sound.now l.store l.machine.frames.items l.control l.machine.left ≡ outcome l.program.sound.now l.fn.store [] l.fn.start l.fn.calls;
+      control : ControlStands l.program.sound.now l.store l.control;
+      frames : FramesStand l.program.sound.now l.store l.machine.frames.items;
+      serves : g.M.Matching.serves l.matching l.program.sound.now l.store;
       keeps : Keeps l.fn.store l.store;
     }
 
-abbrev pub decreases-loop-frames : goal.decreases-loop-frames
-decreases-loop-frames g l = steps_left l.sound l.store l.frames.items l.control l.left
+abbrev pub decreases-steps : goal.decreases-steps
+decreases-steps g l = steps_left l.program.sound.now l.store l.machine.frames.items l.control l.machine.left

@@ -14,7 +14,7 @@ stands p w (Some f) e s sound = body_below p w f s sound (sym e)
 
 pub returns-in-Call-clause-stands : goal.returns-in-Call-clause-stands
 returns-in-Call-clause-stands c =
-    let p = c.args.sound.now in
+    let p = c.args.program.sound.now in
     stands p c.in-Call.name _
     (c.find.ensures ∙ ap (λ fs. row_of fs c.in-Call.name) (c.functions-functions.ensures.functions ∙ ap (λ (q : ProgramTable). q.functions) c.program.ensures.program))
     (subst ProgramStands c.program.ensures.program c.functions-functions.ensures.stands) c.program.ensures.sound

@@ -5,8 +5,8 @@ use Rattle.xd_eval.proofs.resuming.next_of_sequence.Goals as goal
 
 pub returns-in-Some-clause-step : goal.returns-in-Some-clause-step
 returns-in-Some-clause-step c n =
-    next_in_sequence c.args.sound.now c.args.store.now c.args.parts c.take_value.new.parts c.args.seq c.in_ok-next.ensures.more c.args.frames.now.items c.push.new.self.items c.requires.frames c.requires.parts c.requires.seq
-    n c.in-Some.next c.in-Some.scope (rw c.in-Some.is at c.in_ok-next.ensures.next) c.in_ok-push.ensures.items c.requires.sequence
+    next_in_sequence c.args.sound.now c.args.store.now c.args.parts c.take_value.new.parts c.args.seq c.in_ok-next.ensures.more c.args.frames.now.items c.push.new.self.items c.requires.frames c.requires.frame.1 c.requires.value
+    n c.in-Some.next c.in-Some.scope (rw c.in-Some.is at c.in_ok-next.ensures.next) c.in_ok-push.ensures.items c.requires.frame.0
 
 pub returns-clause-step : goal.returns-clause-step
 returns-clause-step c n =

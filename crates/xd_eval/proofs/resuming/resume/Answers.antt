@@ -10,18 +10,18 @@ use Rattle.xd_eval.proofs.resuming.resume.Goals as goal
 
 pub returns-in_ok-made-in-Element-clause-step : goal.returns-in_ok-made-in-Element-clause-step
 returns-in_ok-made-in-Element-clause-step g c =
-    let p = c.args.sound.now in
+    let p = c.args.program.sound.now in
     let e = c.in_ok-made-in-Element.ensures in
-    subst (λ (f : Frame). Leads p c.args.store.now (c.args.frames.now.items ++ f ∷ []) (Give c.args.seq) c.args.left.now c.elem_node.new.self c.args.frames.now.items c.args.left.now (Give c.in_ok-made-in-Element.made))
+    subst (λ (f : Frame). Leads p c.args.store.now (c.args.machine.now.frames.items ++ f ∷ []) (Give c.args.seq) c.args.machine.now.left c.elem_node.new.self c.args.machine.now.frames.items c.args.machine.now.left (Give c.in_ok-made-in-Element.made))
     (sym c.in-Element.is)
-    (element_leads p c.args.store.now c.elem_node.new.self e.keeps c.args.frames.now.items c.requires.frames c.in-Element.label c.args.seq c.in_ok-made-in-Element.made e.belongs
-    (e.ok ∙ ap (λ (x : Seq). element c.in-Element.label (document_at c.args.store.now c.args.seq) (document_at c.args.store.now x)) c.empty.ensures) c.args.left.now)
+    (element_leads p c.args.store.now c.elem_node.new.self e.keeps c.args.machine.now.frames.items c.requires.awaited.frames c.in-Element.label c.args.seq c.in_ok-made-in-Element.made e.belongs
+    (e.ok ∙ ap (λ (x : Seq). element c.in-Element.label (document_at c.args.store.now c.args.seq) (document_at c.args.store.now x)) c.empty.ensures) c.args.machine.now.left)
 
 pub returns-in_ok-step-in-Match-clause-step : goal.returns-in_ok-step-in-Match-clause-step
 returns-in_ok-step-in-Match-clause-step g c =
-    let p = c.args.sound.now in
+    let p = c.args.program.sound.now in
     let e = c.in_ok-step-in-Match.ensures in
-    subst (λ (f : Frame). IsStep p c.args.store.now (c.args.frames.now.items ++ f ∷ []) (Give c.args.seq) c.args.left.now c.choose.new.store c.args.frames.now.items c.args.left.now c.in_ok-step-in-Match.step)
+    subst (λ (f : Frame). IsStep p c.args.store.now (c.args.machine.now.frames.items ++ f ∷ []) (Give c.args.seq) c.args.machine.now.left c.choose.new.store c.args.machine.now.frames.items c.args.machine.now.left c.in_ok-step-in-Match.step)
     (sym c.in-Match.is)
-    (match_steps p c.args.store.now c.choose.new.store e.keeps c.args.frames.now.items c.requires.frames c.in-Match.id c.in-Match.scope c.args.seq c.args.left.now c.in_ok-step-in-Match.step
+    (match_steps p c.args.store.now c.choose.new.store e.keeps c.args.machine.now.frames.items c.requires.awaited.frames c.in-Match.id c.in-Match.scope c.args.seq c.args.machine.now.left c.in_ok-step-in-Match.step
     (subst (λ cs. IsChosen p c.args.store.now c.choose.new.store cs c.in-Match.scope.bindings.value.items (document_at c.args.store.now c.args.seq) c.in_ok-step-in-Match.step) c.clauses_of-clauses.ensures.numbers e.chosen))
