@@ -8,20 +8,21 @@ use Rattle.std.proofs.lemmas.List.Folds.{list_any-append}
 use Rattle.std.proofs.lemmas.Option.{slice_get_within}
 use Rattle.xd_doc.specs.Document.{Document, empty, text, element}
 use Rattle.xd_doc.proofs.Bools.{and_left, and_right, same_tests}
+use Rattle.xd_doc.specs.Runs.{Run, at_end, at_text, at_element, IsTogether}
 use Rattle.xd_auto.specs.declared.auto.State.{State}
 use Rattle.xd_auto.specs.Automaton.{Automaton, IsClosed, IsState, moves_at}
-use Rattle.xd_auto.specs.Runs.{Run, ends, takes_text, takes_element, IsAcceptingRun}
+use Rattle.xd_auto.specs.Runs.{IsAcceptingRun}
 use Rattle.xd_auto.proofs.Anys.{found}
-use Rattle.xd_auto_pairs.specs.declared.kind.MoveKind.{MoveKind}
-use Rattle.xd_auto_pairs.specs.declared.kind.MoveKind.TheVariants as M
-use Rattle.xd_auto_pairs.specs.Traces.{IsTogether, KeepsTogether, Owned, after_element, after_text, at_element, at_text, in_element, trace_of}
-use Rattle.xd_auto_pairs.proofs.Steps.{All-there, closed_element, closed_text, takes_element_at, takes_text_at}
+use Rattle.xd_auto.specs.declared.kind.MoveKind.{MoveKind}
+use Rattle.xd_auto.specs.declared.kind.MoveKind.TheVariants as M
+use Rattle.xd_auto.specs.Traces.{KeepsTogether, Owned, after_element, after_text, in_element, trace_of}
+use Rattle.xd_auto.proofs.Steps.{All-there, closed_element, closed_text, takes_element_at, takes_text_at}
 use Rattle.xd_bind.specs.Projection.{CanProject, has_track, is_kind, is_track, owned_by}
 use Rattle.xd_bind.specs.declared.tracks.Track.{Track}
 use Rattle.xd_bind.specs.declared.tracks.Tracks.{Tracks}
 use Rattle.xd_patterns.specs.Held.{marking_of, variables_in}
 use Rattle.xd_patterns.specs.declared.marked.Marked.{Marked}
-use Rattle.xd_clauses.specs.Owning.{moves_of}
+use Rattle.xd_patterns.specs.Marked.{moves_of}
 use Rattle.xd_calls_clauses.specs.Tracked.{IsOfMove, IsOfMoves, IsOfStates, IsTrue, MoreTracks, count_of, is_held}
 
 -- ---- tracks are added
@@ -144,20 +145,20 @@ module _ (a : Automaton) (m : Marked) where
 module _ (a : Automaton) (b c : Owned) (closed : IsClosed a)
     (texts : (s : State) (n : ℕ) → IsState a s → n < length (moves_at a s).texts → b.text s n ≡ c.text s n)
     (elements : (s : State) (n : ℕ) → IsState a s → n < length (moves_at a s).labels → b.element s n ≡ c.element s n) where
-  traces_agree : (d : Document) (s : State) (run : Run) → IsState a s → IsAcceptingRun a d s run → trace_of a b s run ≡ trace_of a c s run
-  traces_agree empty s ends here h = refl
-  traces_agree empty s (takes_text n r) here h = absurd h
-  traces_agree empty s (takes_element n k r) here h = absurd h
-  traces_agree (text t d) s ends here h = absurd h
-  traces_agree (text t d) s (takes_text n r) here h =
+  traces_agree : (d : Document) (s : State) (run : Run ℕ) → IsState a s → IsAcceptingRun a d s run → trace_of a b s run ≡ trace_of a c s run
+  traces_agree empty s at_end here h = refl
+  traces_agree empty s (at_text n r) here h = absurd h
+  traces_agree empty s (at_element n k r) here h = absurd h
+  traces_agree (text t d) s at_end here h = absurd h
+  traces_agree (text t d) s (at_text n r) here h =
       let f = takes_text_at a t d s n r h in
       let more = traces_agree d f.step.rest r (closed_text a s n f.step closed here f.there) f.rest in
       ap (λ v. at_text v (trace_of a b (after_text a s n) r)) (texts s n here (slice_get_within (moves_at a s).texts n f.step f.there))
       ∙ ap (λ y. at_text (c.text s n) y) (subst (λ q. trace_of a b q r ≡ trace_of a c q r) (sym f.onto) more)
-  traces_agree (text t d) s (takes_element n k r) here h = absurd h
-  traces_agree (element l e d) s ends here h = absurd h
-  traces_agree (element l e d) s (takes_text n r) here h = absurd h
-  traces_agree (element l e d) s (takes_element n k r) here h =
+  traces_agree (text t d) s (at_element n k r) here h = absurd h
+  traces_agree (element l e d) s at_end here h = absurd h
+  traces_agree (element l e d) s (at_text n r) here h = absurd h
+  traces_agree (element l e d) s (at_element n k r) here h =
       let f = takes_element_at a l e d s n k r h in
       let below = closed_element a s n f.step closed here f.there in
       let inner = traces_agree e f.step.content k below.0 f.content in

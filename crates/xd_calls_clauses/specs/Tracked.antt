@@ -3,15 +3,15 @@ use Rattle.std.specs.Prelude.{◌≡◌, ℕ, ◌<◌, Bool, true, List, [], len
 use Rattle.std.specs.List.{All}
 use Rattle.xd_auto.specs.declared.auto.State.{State}
 use Rattle.xd_auto.specs.Automaton.{Automaton, IsState, StateMoves, moves_at}
-use Rattle.xd_auto_pairs.specs.declared.kind.MoveKind.{MoveKind}
-use Rattle.xd_auto_pairs.specs.declared.kind.MoveKind.TheVariants.{Label, Text}
-use Rattle.xd_auto_pairs.specs.Traces.{KeepsTogether}
+use Rattle.xd_auto.specs.declared.kind.MoveKind.{MoveKind}
+use Rattle.xd_auto.specs.declared.kind.MoveKind.TheVariants.{Label, Text}
+use Rattle.xd_auto.specs.Traces.{KeepsTogether}
 use Rattle.xd_syntax.specs.Words.{has_word}
 use Rattle.xd_bind.specs.Projection.{has_track}
 use Rattle.xd_bind.specs.declared.tracks.Track.{Track}
-use Rattle.xd_patterns.specs.Held.{marking_of, marks_at, variables_in}
+use Rattle.xd_patterns.specs.Held.{marking_of, variables_in}
 use Rattle.xd_patterns.specs.declared.marked.Marked.{Marked}
-use Rattle.xd_clauses.specs.Owning.{moves_of}
+use Rattle.xd_patterns.specs.Marked.{marks_at, moves_of}
 
 -- the move belongs to the variable of this number
 abbrev pub is_held : Marked → State → MoveKind → ℕ → ℕ → Bool

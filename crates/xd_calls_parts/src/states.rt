@@ -15,10 +15,10 @@ use xd_rules::{Atom, label_atoms, share, text_atoms};
 use xd_show_solve::level_of;
 use xd_state_heads::{goal_cases, sides_of, unnamed_of};
 
-/// `set_of NUMBERS`; `keys ONE TWO`, whether the key of the one before the other comes before that
-/// of the other before the one; `level TYPE`, to how many states the type's state leads after items,
-/// itself included; `cases TYPE`, each head that the type's state begins with, at each of its atoms,
-/// and how many heads match there; `unnamed TYPE`; `kept TYPE MARK DOCUMENTS`, with `all` states
+/// `set_of NUMBERS`; `keys ONE TWO`, whether the key of the one before the other is that of the other
+/// before the one; `level TYPE`, to how many states the type's state leads after items, itself
+/// included; `cases TYPE`, each head that the type's state begins with, at each of its atoms, and how
+/// many heads match there; `unnamed TYPE`; `kept TYPE MARK DOCUMENTS`, with `all` states
 /// marked or `none`; `merged TYPE DOCUMENTS`; `taken TYPE DOCUMENTS`; `solved TYPE`, the type of what
 /// the type's state accepts, with `Any` for each content; `uses TYPE`, whether moves wait at first,
 /// and whether they do once the type's state is found; `groups TYPE PLACE`, in how many groups the
@@ -93,8 +93,8 @@ fn show_keys(call: &Call<'_>, out: &mut Vec<u8>) -> Result<(), CallError> {
     let one = numbered(&auto, call.size(0)?)?;
     let two = numbered(&auto, call.size(1)?)?;
     let first = StateKey::new(call.alloc, one, &[two])?;
-    let second = StateKey::new(call.alloc, two, &[one])?;
-    let answer = if first < second { "yes\n" } else { "no\n" };
+    let second = StateKey::of_pair(call.alloc, two, one, &[])?;
+    let answer = if first == second { "yes\n" } else { "no\n" };
     out.extend_from_slice(answer.as_bytes())?;
     Ok(())
 }

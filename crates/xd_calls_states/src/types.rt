@@ -34,13 +34,15 @@ pub enum TypeShown {
     Heads,
     /// A line for each of them: its class, and whether its content and its rest are the same type.
     Numbered,
+    /// A line for each of them: whether it is an element or a text.
+    Sorts,
     /// How many moves its continuation has.
     Moves,
     /// What its state stands for.
     State,
 }
 
-/// `heads TYPE`, `numbered TYPE`, `moves TYPE`, `state_type TYPE`.
+/// `heads TYPE`, `numbered TYPE`, `sorts TYPE`, `moves TYPE`, `state_type TYPE`.
 pub fn show_type(call: &Call<'_>, shown: TypeShown, out: &mut Vec<u8>) -> Result<(), CallError> {
     let (mut sound, id) = type_of(call, 0)?;
     show_type_of(call.alloc, shown, &mut sound, id, out)
@@ -59,7 +61,7 @@ fn show_type_of(
         TypeShown::Heads => show_heads_of(alloc, sound, id, out),
         TypeShown::Numbered => show_numbered_of(alloc, sound, id, out),
         TypeShown::Moves => show_moves_of(alloc, sound, id, out),
-        TypeShown::State => show_state_of(alloc, sound, id, out),
+        TypeShown::Sorts | TypeShown::State => show_state_of(alloc, shown, sound, id, out),
     }
 }
 
@@ -166,6 +168,7 @@ fn show_head(alloc: Global, types: &Types, head: &Head, out: &mut Vec<u8>) -> Re
 
 fn show_state_of(
     alloc: Global,
+    shown: TypeShown,
     sound: &mut SoundProgram,
     id: TypeId,
     out: &mut Vec<u8>,
@@ -174,11 +177,12 @@ fn show_state_of(
 {
     let mut cells = Cells::new(alloc);
     let mut auto = Auto::new(alloc);
-    show_compiled(alloc, sound, &mut cells, &mut auto, id, out)
+    show_compiled(alloc, shown, sound, &mut cells, &mut auto, id, out)
 }
 
 fn show_compiled(
     alloc: Global,
+    shown: TypeShown,
     sound: &mut SoundProgram,
     cells: &mut Cells,
     auto: &mut Auto,
@@ -189,7 +193,29 @@ fn show_compiled(
     requires mirrors { Mirrors sound.old cells.old auto.old }
 {
     let state = compile_type(alloc, sound, cells, auto, id)?;
-    show_state(alloc, sound, cells, auto, state, out)
+    match shown {
+        TypeShown::Sorts => show_sorts(sound, cells, auto, state, out),
+        _ => show_state(alloc, sound, cells, auto, state, out),
+    }
+}
+
+/// Which heads of a state's type are elements, and which are texts.
+fn show_sorts(
+    sound: &SoundProgram,
+    cells: &Cells,
+    auto: &Auto,
+    state: State,
+    out: &mut Vec<u8>,
+) -> Result<(), CallError>
+    requires mirrors { Mirrors sound.now cells.now auto.now }
+    requires state { IsTypeState cells.now state }
+{
+    let _states = auto.len();
+    for is_text in cells.sorts(state) {
+        let sort = if *is_text { "text" } else { "element" };
+        writeln!(out, "{sort}")?;
+    }
+    Ok(())
 }
 
 /// What a state stands for.

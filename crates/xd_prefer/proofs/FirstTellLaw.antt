@@ -3,6 +3,7 @@ use Rattle.std.proofs.Common.{◌≡◌, ℕ, Bool, true, false, ◌||◌, cond,
 use Rattle.std.specs.List.{slice_get}
 use Rattle.std.specs.Str.{bytes_eq}
 use Rattle.xd_doc.specs.Document.{Document, is_proper}
+use Rattle.xd_doc.specs.Runs.{Run, held}
 use Rattle.xd_auto.specs.declared.auto.State.{State}
 use Rattle.xd_auto.specs.Automaton.{Automaton, accepts}
 use Rattle.xd_auto.specs.Runs as Numbered
@@ -14,27 +15,25 @@ use Rattle.xd_meaning.specs.FirstMatch.{first}
 use Rattle.xd_meaning.specs.Meaning.{Environment, looked_up}
 use Rattle.xd_laws.proofs.DecisionLemmas.{first_way}
 use Rattle.xd_laws.proofs.Unfoldings.{same_word_eq}
-use Rattle.xd_pattern_runs.specs.Runs as runs
-use Rattle.xd_pattern_runs.specs.Runs.{Run}
+use Rattle.xd_pattern_runs.specs.Runs.{MarkedRun, trace}
 use Rattle.xd_pattern_runs.specs.Laws.{first_of, run_bindings}
-use Rattle.xd_auto_pairs.specs.Traces.{held, trace_of}
+use Rattle.xd_auto.specs.Traces.{trace_of}
 use Rattle.xd_points.specs.declared.patterns.PatternStates.{PatternStates}
 use Rattle.xd_given.specs.Given.{IsFirstGivenAlone}
-use Rattle.xd_patterns.specs.Marked.{Marking, IsCompiled, with_marks}
+use Rattle.xd_patterns.specs.Marked.{Marking, IsCompiled, with_marks, moves_of}
+use Rattle.xd_patterns.proofs.MarksLaw.{owned_trace}
 use Rattle.xd_clauses.specs.Clauses.{Accepted}
-use Rattle.xd_clauses.specs.Owning.{moves_of}
-use Rattle.xd_clauses.proofs.Forms.{same_trace, held_same}
 use Rattle.xd_clauses.proofs.NumberedLemmas.{alone_joined, alone_parts}
 use Rattle.xd_prefer.specs.Preferred.{Prefers}
 
 -- what is looked up among what a run gives
-looked_up-run : (xs : List (List ℕ)) (d : Document) (r : Run) (x : List ℕ) → has_word xs x ≡ true → looked_up (run_bindings xs d r) x ≡ Some (runs.held x d r)
+looked_up-run : (xs : List (List ℕ)) (d : Document) (r : MarkedRun) (x : List ℕ) → has_word xs x ≡ true → looked_up (run_bindings xs d r) x ≡ Some (held d (trace x r))
 looked_up-run [] d r x h = absurd (cc)
 looked_up-run (y ∷ ys) d r x h = go (bytes_eq y x) refl h (λ k. looked_up-run ys d r x k)
   where
-    go : (b : Bool) → bytes_eq y x ≡ b → (b || has_word ys x) ≡ true → (has_word ys x ≡ true → looked_up (run_bindings ys d r) x ≡ Some (runs.held x d r))
-        → cond b (Some (runs.held y d r)) (looked_up (run_bindings ys d r) x) ≡ Some (runs.held x d r)
-    go true e k more = ap (λ w. Some (runs.held w d r)) (same_word_eq y x e)
+    go : (b : Bool) → bytes_eq y x ≡ b → (b || has_word ys x) ≡ true → (has_word ys x ≡ true → looked_up (run_bindings ys d r) x ≡ Some (held d (trace x r)))
+        → cond b (Some (held d (trace y r))) (looked_up (run_bindings ys d r) x) ≡ Some (held d (trace x r))
+    go true e k more = ap (λ w. Some (held d (trace w r))) (same_word_eq y x e)
     go false e k more = more k
 
 -- what is looked up among the bindings of these variables
@@ -62,11 +61,11 @@ looked_up-in vs (y ∷ ys) x h = go (looked_up vs y) refl (bytes_eq y x) refl h 
     go (Some d) e false q k rec = ap (λ b. cond b (Some d) (looked_up (bindings_in ys vs) x)) q ∙ rec k
 
 -- the first of some runs with their marks
-first_marked : (f : Numbered.Run → Run) (rs : List Numbered.Run) (r : Numbered.Run) → slice_get rs 0 ≡ Some r → first_of (map f rs) ≡ Some (f r)
+first_marked : (f : Run ℕ → MarkedRun) (rs : List (Run ℕ)) (r : Run ℕ) → slice_get rs 0 ≡ Some r → first_of (map f rs) ≡ Some (f r)
 first_marked f [] r e = absurd (cc)
 first_marked f (z ∷ rs) r e = let same : z ≡ r = cc in ap (λ w. Some (f w)) same
 
-some_first : (f : Numbered.Run → Run) (rs : List Numbered.Run) (r : Run) → first_of (map f rs) ≡ Some r → (z : Numbered.Run) × (slice_get rs 0 ≡ Some z) × (f z ≡ r)
+some_first : (f : Run ℕ → MarkedRun) (rs : List (Run ℕ)) (r : MarkedRun) → first_of (map f rs) ≡ Some r → (z : Run ℕ) × (slice_get rs 0 ≡ Some z) × (f z ≡ r)
 some_first f [] r e = absurd (cc)
 some_first f (z ∷ rs) r e = (z, refl, let same : f z ≡ r = cc in same)
 
@@ -75,11 +74,11 @@ mapped_some f None b e = absurd (cc)
 mapped_some f (Some a) b e = (a, refl, let same : f a ≡ b = cc in same)
 
 module _ (E : Definitions) (P : PlacedTree) (p : PatternStates) (k : Marking) (s : State) (c : IsCompiled E (unplaced P) p.auto k s) (x : List ℕ) (there : has_word (variables_of (unplaced P)) x ≡ true) where
-  held_is : (d : Document) (run : Numbered.Run) → runs.held x d (with_marks p.auto k s run) ≡ held d (trace_of p.auto (moves_of k x) s run)
-  held_is d run = held_same x d (with_marks p.auto k s run) ∙ ap (held d) (sym (same_trace p.auto k x s run))
+  held_is : (d : Document) (run : Run ℕ) → held d (trace x (with_marks p.auto k s run)) ≡ held d (trace_of p.auto (moves_of k x) s run)
+  held_is d run = ap (held d) (owned_trace p.auto k x s run)
 
   -- the first run and the first match give the variable the same
-  both_give : (d : Document) (run : Numbered.Run) (bs : Environment) → run_bindings (variables_of (unplaced P)) d (with_marks p.auto k s run) ≡ bindings_in (variables_of (unplaced P)) bs
+  both_give : (d : Document) (run : Run ℕ) (bs : Environment) → run_bindings (variables_of (unplaced P)) d (with_marks p.auto k s run) ≡ bindings_in (variables_of (unplaced P)) bs
       → looked_up bs x ≡ Some (held d (trace_of p.auto (moves_of k x) s run))
   both_give d run bs same =
       sym (looked_up-in bs (variables_of (unplaced P)) x there) ∙ ap (λ (vs : Environment). looked_up vs x) (sym same)

@@ -1,6 +1,7 @@
 -- What the variables of a clause are given by first matches.
 use Rattle.std.proofs.Common.{◌≡◌, ◌↔◌, ℕ, true, List, [], Option, Some, None, IsSomeAnd, refl, ap, sym, ◌∙◌}
 use Rattle.xd_doc.specs.Document.{Document, is_proper}
+use Rattle.xd_doc.specs.Runs.{held}
 use Rattle.xd_auto.specs.declared.auto.State.{State}
 use Rattle.xd_auto.specs.Automaton.{Automaton}
 use Rattle.xd_syntax.specs.Words.{has_word}
@@ -12,13 +13,13 @@ use Rattle.xd_meaning.specs.Bindings.{variables_of}
 use Rattle.xd_meaning.specs.FirstMatch.{first}
 use Rattle.xd_meaning.specs.Meaning.{Environment, looked_up}
 use Rattle.xd_laws.proofs.DecisionLemmas.{first_way}
-use Rattle.xd_auto_pairs.specs.Traces.{Owned, held}
+use Rattle.xd_auto.specs.Traces.{Owned}
 use Rattle.xd_bind.specs.declared.tracks.Given.{Given}
-use Rattle.xd_bind.proofs.SameOwned.{SameOwned, trace_same}
+use Rattle.xd_auto.proofs.SameMoves.{SameMoves, trace_same}
 use Rattle.xd_patterns.specs.CompiledProgram.{marking_of_program}
+use Rattle.xd_patterns.specs.Marked.{moves_of}
 use Rattle.xd_clauses.specs.Clauses.{Accepted, AreGivensOf}
 use Rattle.xd_clauses.specs.Compiled.{AreRunsGivens, IsNumbered, RunsGive, state_of}
-use Rattle.xd_clauses.specs.Owning.{moves_of}
 use Rattle.xd_clauses.specs.declared.compiled.CompiledPatterns.{CompiledPatterns}
 use Rattle.xd_clauses.proofs.NumberedLemmas.{all_given, numbered_state}
 use Rattle.xd_prefer.specs.Preferred.{Prefers}
@@ -26,7 +27,7 @@ use Rattle.xd_prefer.proofs.FirstTellLaw.{preferred, prefers}
 
 module _ (E : Definitions) (P : PlacedTree) (m : CompiledPatterns) (n : ℕ) (i : IsNumbered E (unplaced P) m n) (q : Automaton) (t : State) where
   -- what the same moves give
-  same_first : (b c : Owned) → SameOwned b c → (e : Document) → RunsGive true q m n t b e → RunsGive true q m n t c e
+  same_first : (b c : Owned) → SameMoves b c → (e : Document) → RunsGive true q m n t b e → RunsGive true q m n t c e
   same_first b c h e g = record {
     document = g.document;
     proper = g.proper;

@@ -1,5 +1,5 @@
 use Rattle.std.proofs.Common.{◌+◌, [], length, subst, sym}
-use Rattle.xd_auto_pairs.specs.declared.kind.MoveKind.TheVariants.{Label, Text}
+use Rattle.xd_auto.specs.declared.kind.MoveKind.TheVariants.{Label, Text}
 use Rattle.xd_patterns.specs.Held.{variables_in}
 use Rattle.xd_calls_clauses.specs.Tracked.{IsOfMoves, IsOfStates, MoreTracks}
 use Rattle.xd_calls_clauses.proofs.MoreTracksLemmas.{more_state}
