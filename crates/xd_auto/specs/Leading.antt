@@ -7,9 +7,11 @@ use Rattle.xd_auto.specs.declared.auto.LabelMove.{LabelMove}
 use Rattle.xd_auto.specs.declared.auto.TextMove.{TextMove}
 use Rattle.xd_auto.specs.declared.leading.Ends.{Ends}
 
+-- an element leads inside and behind it
 abbrev pub label_ends : LabelMove → Ends
 label_ends m = record { inside = Some m.content; behind = m.rest }
 
+-- a text leads behind it alone
 abbrev pub text_ends : TextMove → Ends
 text_ends m = record { inside = None; behind = m.rest }
 

@@ -37,8 +37,8 @@ impl Desk for StateDesk {
 /// Makes a call about the program that is its text.
 fn answer(call: &Call<'_>, out: &mut Vec<u8>) -> Result<(), CallError> {
     match call.name {
-        "numbered" => show_type(call, TypeShown::Numbered, out),
         "heads" => show_type(call, TypeShown::Heads, out),
+        "numbered" => show_type(call, TypeShown::Numbered, out),
         "sorts" => show_type(call, TypeShown::Sorts, out),
         "moves" => show_type(call, TypeShown::Moves, out),
         "state_type" => show_type(call, TypeShown::State, out),

@@ -113,8 +113,9 @@ impl PatternCompiler {
     ///
     /// What stands ahead has one state, however many of them lead to it: all uses of a declared type
     /// have one, and an element's content is the same state in each type and pattern that comes to
-    /// it by the element's type. So the cost is that of what differs. The program is the one that the compiler was made of, and the
-    /// patterns are linear. After `NoMemory` old states accept what they did.
+    /// it by the element's type. So the cost is that of what differs. The program is the one that the
+    /// compiler was made of, and the patterns are linear. After `NoMemory` old states accept what
+    /// they did.
     pub fn compile_all(
         &self,
         alloc: Global,
