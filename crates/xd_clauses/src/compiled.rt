@@ -30,7 +30,7 @@ use xd_bind::copied;
 use xd_doc::NoMemory;
 use xd_given::alike_states;
 use xd_patterns::{CompiledProgram, PatternCompiler, compiled_states_stay};
-use xd_points::{PatternStates, PointTable};
+use xd_points::{PatternStates, PointParts, PointTable};
 use xd_sound::SoundProgram;
 use xd_syntax::{PatternId, TypeId};
 
@@ -221,7 +221,12 @@ impl CompiledPatterns {
             return Ok(state);
         }
         let mut table = PointTable::new(alloc);
-        let found = table.accept(alloc, auto, &self.states, state, self.all, rights)?;
+        let asked = PointParts {
+            left: state,
+            pattern: self.all,
+            rights,
+        };
+        let found = table.accept(alloc, auto, &self.states, asked)?;
         let made = found_or_nothing(auto, found)?;
         Ok(made)
     }

@@ -21,8 +21,9 @@ use std::alloc::Global;
 use xd_auto::{Auto, State};
 use xd_bind::Given;
 use xd_doc::{Label, NoMemory, Store};
-use xd_given::{bindings, first_bindings};
+use xd_given::{PatternVariables, bindings, first_bindings};
 use xd_least::LeastInhabitants;
+use xd_points::PointParts;
 
 /// One of some compiled patterns.
 #[derive(Clone, Copy)]
@@ -78,33 +79,20 @@ impl<'a> NumberedPattern<'a> {
             compiled: &of.compiled,
             words: variables,
         };
-        let states = &of.states;
+        let given = PatternVariables {
+            patterns: &of.states,
+            owner: &owner,
+            variables,
+        };
+        let asked = PointParts {
+            left: arriving,
+            pattern: start,
+            rights: &[],
+        };
         if first {
-            first_bindings(
-                alloc,
-                auto,
-                states,
-                &owner,
-                variables,
-                arriving,
-                start,
-                &[],
-                known,
-                store,
-            )
+            first_bindings(alloc, auto, &given, asked, known, store)
         } else {
-            bindings(
-                alloc,
-                auto,
-                states,
-                &owner,
-                variables,
-                arriving,
-                start,
-                &[],
-                known,
-                store,
-            )
+            bindings(alloc, auto, &given, asked, known, store)
         }
     }
 

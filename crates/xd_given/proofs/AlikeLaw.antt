@@ -1,5 +1,5 @@
 -- States of an alike set give each variable nothing, or all that they take.
-use Rattle.std.proofs.Common.{◌≡◌, Bool, true, false, sym, ap, ◌∙◌, ◌&&◌, ◌+◌, ◌<◌, ◌≤◌, zero, suc, List, [], ◌∷◌, get_or, length, ⊎_elim, Some, refl, ℕ, ◌≢◌, set, subst, arith}
+use Rattle.std.proofs.Common.{◌≡◌, Bool, true, false, sym, ap, ◌∙◌, ◌&&◌, ◌+◌, ◌<◌, ◌≤◌, zero, suc, List, [], ◌∷◌, get_or, length, ⊎_elim, Option, Some, None, refl, ℕ, ◌≢◌, set, subst, arith}
 use Rattle.std.specs.List.{slice_get}
 use Rattle.std.proofs.lemmas.Bool.{cases_eq, and_from}
 use Rattle.std.proofs.lemmas.List.{get_or-set_other}
@@ -14,11 +14,13 @@ use Rattle.xd_doc.specs.Runs.{Run, at_end, at_text, at_element, IsFree}
 use Rattle.xd_auto.specs.declared.auto.State.{State}
 use Rattle.xd_auto.specs.declared.auto.LabelMove.{LabelMove}
 use Rattle.xd_auto.specs.declared.auto.TextMove.{TextMove}
+use Rattle.xd_auto.specs.declared.leading.Ends.{Ends}
 use Rattle.xd_auto.specs.Automaton.{Automaton, moves_at}
+use Rattle.xd_auto.specs.Leading.{label_ends, text_ends}
 use Rattle.xd_auto.specs.Runs.{IsAcceptingRun}
 use Rattle.xd_auto.proofs.Anys.{IsSomeAnd-parts}
 use Rattle.xd_auto.specs.Traces.{Owned, trace_of, content_or, rest_or, text_rest_or}
-use Rattle.xd_given.specs.Alike.{IsAlike, IsAlikeFor, IsAlikeSet, IsIn, alike_label, alike_text, begins, marked_count, is_side}
+use Rattle.xd_given.specs.Alike.{IsAlike, IsAlikeFor, IsAlikeSet, IsIn, alike_move, begins, begins_inside, marked_count, is_side}
 use Rattle.xd_given.specs.Owning.{GivesAlike, IsWhole, owns_first}
 
 side_is : (own v : Bool) → is_side own v ≡ true → v ≡ own
@@ -26,42 +28,28 @@ side_is true v e = e
 side_is false true e = absurd (cc)
 side_is false false e = refl
 
--- what the tests of moves tell
-record LabelTold (b : Owned) (set : State → Bool) (s : State) (n : ℕ) (m : LabelMove) : Type 0 where
-  owned : b.element s n ≡ owns_first b s
-  content : set m.content ≡ true
-  nothing : owns_first b m.content ≡ false
-  rest : set m.rest ≡ true
-  goes_on : owns_first b m.rest ≡ owns_first b s
+-- what the test of a move tells
+pub record Told (b : Owned) (set : State → Bool) (s : State) (own : Bool) (e : Ends) : Type 0 where
+  pub owned : own ≡ owns_first b s
+  pub inside : begins_inside b set e.inside ≡ true
+  pub rest : set e.behind ≡ true
+  pub goes_on : owns_first b e.behind ≡ owns_first b s
 
-record TextTold (b : Owned) (set : State → Bool) (s : State) (n : ℕ) (m : TextMove) : Type 0 where
-  owned : b.text s n ≡ owns_first b s
-  rest : set m.rest ≡ true
-  goes_on : owns_first b m.rest ≡ owns_first b s
-
-label_told : (b : Owned) (set : State → Bool) (s : State) (n : ℕ) (m : LabelMove) → alike_label b set s n m ≡ true → LabelTold b set s n m
-label_told b set s n m e =
+pub told : (b : Owned) (set : State → Bool) (s : State) (own : Bool) (e : Ends) → alike_move b set s own e ≡ true → Told b set s own e
+told b set s own e h =
     let first = owns_first b s in
-    let both = and_right (is_side first (b.element s n)) (begins b set false m.content && begins b set first m.rest) e in
-    let inner = and_left (begins b set false m.content) (begins b set first m.rest) both in
-    let behind = and_right (begins b set false m.content) (begins b set first m.rest) both in
+    let both = and_right (is_side first own) (begins_inside b set e.inside && begins b set first e.behind) h in
+    let behind = and_right (begins_inside b set e.inside) (begins b set first e.behind) both in
     record {
-      owned = side_is first (b.element s n) (and_left (is_side first (b.element s n)) _ e);
-      content = and_left (set m.content) (is_side false (owns_first b m.content)) inner;
-      nothing = side_is false (owns_first b m.content) (and_right (set m.content) (is_side false (owns_first b m.content)) inner);
-      rest = and_left (set m.rest) (is_side first (owns_first b m.rest)) behind;
-      goes_on = side_is first (owns_first b m.rest) (and_right (set m.rest) (is_side first (owns_first b m.rest)) behind);
+      owned = side_is first own (and_left (is_side first own) _ h);
+      inside = and_left (begins_inside b set e.inside) (begins b set first e.behind) both;
+      rest = and_left (set e.behind) (is_side first (owns_first b e.behind)) behind;
+      goes_on = side_is first (owns_first b e.behind) (and_right (set e.behind) (is_side first (owns_first b e.behind)) behind);
     }
 
-text_told : (b : Owned) (set : State → Bool) (s : State) (n : ℕ) (m : TextMove) → alike_text b set s n m ≡ true → TextTold b set s n m
-text_told b set s n m e =
-    let first = owns_first b s in
-    let behind = and_right (is_side first (b.text s n)) (begins b set first m.rest) e in
-    record {
-      owned = side_is first (b.text s n) (and_left (is_side first (b.text s n)) _ e);
-      rest = and_left (set m.rest) (is_side first (owns_first b m.rest)) behind;
-      goes_on = side_is first (owns_first b m.rest) (and_right (set m.rest) (is_side first (owns_first b m.rest)) behind);
-    }
+-- what it tells of a content
+pub nothing : (b : Owned) (set : State → Bool) (c : State) → begins b set false c ≡ true → owns_first b c ≡ false
+nothing b set c e = side_is false (owns_first b c) (and_right (set c) (is_side false (owns_first b c)) e)
 
 module _ (a : Automaton) (b : Owned) (set : State → Bool) (alike : (s : State) → set s ≡ true → IsAlike a b set s) where
   free : (d : Document) (s : State) (run : Run ℕ) → set s ≡ true → owns_first b s ≡ false → IsAcceptingRun a d s run → IsFree (trace_of a b s run)
@@ -71,16 +59,16 @@ module _ (a : Automaton) (b : Owned) (set : State → Bool) (alike : (s : State)
   free (text t d) s at_end here none h = absurd h
   free (text t d) s (at_text n r) here none h =
       let f = IsSomeAnd-parts (slice_get (moves_at a s).texts n) (λ (m : TextMove). (class_has m.words t ≡ true) × IsAcceptingRun a d m.rest r) h in
-      let k = text_told b set s n f.item ((alike s here).texts n f.item f.is) in
+      let k = told b set s (b.text s n) (text_ends f.item) ((alike s here).texts n f.item f.is) in
       (k.owned ∙ none, subst (λ (q : State). IsFree (trace_of a b q r)) (sym (ap (text_rest_or s) f.is)) (free d f.item.rest r k.rest (k.goes_on ∙ none) f.holds.1))
   free (text t d) s (at_element n c r) here none h = absurd h
   free (element l e d) s at_end here none h = absurd h
   free (element l e d) s (at_text n r) here none h = absurd h
   free (element l e d) s (at_element n c r) here none h =
       let f = IsSomeAnd-parts (slice_get (moves_at a s).labels n) (λ (m : LabelMove). (class_has m.class l ≡ true) × IsAcceptingRun a e m.content c × IsAcceptingRun a d m.rest r) h in
-      let k = label_told b set s n f.item ((alike s here).labels n f.item f.is) in (
+      let k = told b set s (b.element s n) (label_ends f.item) ((alike s here).labels n f.item f.is) in (
         k.owned ∙ none,
-        subst (λ (q : State). IsFree (trace_of a b q c)) (sym (ap (content_or s) f.is)) (free e f.item.content c k.content k.nothing f.holds.1),
+        subst (λ (q : State). IsFree (trace_of a b q c)) (sym (ap (content_or s) f.is)) (free e f.item.content c (and_left (set f.item.content) _ k.inside) (nothing b set f.item.content k.inside) f.holds.1),
         subst (λ (q : State). IsFree (trace_of a b q r)) (sym (ap (rest_or s) f.is)) (free d f.item.rest r k.rest (k.goes_on ∙ none) f.holds.2),
       )
 
@@ -91,16 +79,16 @@ module _ (a : Automaton) (b : Owned) (set : State → Bool) (alike : (s : State)
   whole (text t d) s at_end here first h = absurd h
   whole (text t d) s (at_text n r) here first h =
       let f = IsSomeAnd-parts (slice_get (moves_at a s).texts n) (λ (m : TextMove). (class_has m.words t ≡ true) × IsAcceptingRun a d m.rest r) h in
-      let k = text_told b set s n f.item ((alike s here).texts n f.item f.is) in
+      let k = told b set s (b.text s n) (text_ends f.item) ((alike s here).texts n f.item f.is) in
       (k.owned ∙ first, subst (λ (q : State). IsWhole (trace_of a b q r)) (sym (ap (text_rest_or s) f.is)) (whole d f.item.rest r k.rest (k.goes_on ∙ first) f.holds.1))
   whole (text t d) s (at_element n c r) here first h = absurd h
   whole (element l e d) s at_end here first h = absurd h
   whole (element l e d) s (at_text n r) here first h = absurd h
   whole (element l e d) s (at_element n c r) here first h =
       let f = IsSomeAnd-parts (slice_get (moves_at a s).labels n) (λ (m : LabelMove). (class_has m.class l ≡ true) × IsAcceptingRun a e m.content c × IsAcceptingRun a d m.rest r) h in
-      let k = label_told b set s n f.item ((alike s here).labels n f.item f.is) in (
+      let k = told b set s (b.element s n) (label_ends f.item) ((alike s here).labels n f.item f.is) in (
         k.owned ∙ first,
-        subst (λ (q : State). IsFree (trace_of a b q c)) (sym (ap (content_or s) f.is)) (free e f.item.content c k.content k.nothing f.holds.1),
+        subst (λ (q : State). IsFree (trace_of a b q c)) (sym (ap (content_or s) f.is)) (free e f.item.content c (and_left (set f.item.content) _ k.inside) (nothing b set f.item.content k.inside) f.holds.1),
         subst (λ (q : State). IsWhole (trace_of a b q r)) (sym (ap (rest_or s) f.is)) (whole d f.item.rest r k.rest (k.goes_on ∙ first) f.holds.2),
       )
 
@@ -112,22 +100,22 @@ begins_more : (b : Owned) (one two : State → Bool) (first : Bool) (s : State) 
 begins_more b one two first s more e =
     and_from (two s) (is_side first (owns_first b s)) (more s (and_left (one s) (is_side first (owns_first b s)) e)) (and_right (one s) (is_side first (owns_first b s)) e)
 
+inside_more : (b : Owned) (one two : State → Bool) (inside : Option State) → IsIn one two → begins_inside b one inside ≡ true → begins_inside b two inside ≡ true
+inside_more b one two None more e = refl
+inside_more b one two (Some s) more e = begins_more b one two false s more e
+
+move_more : (b : Owned) (one two : State → Bool) (s : State) (own : Bool) (e : Ends) → IsIn one two → alike_move b one s own e ≡ true → alike_move b two s own e ≡ true
+move_more b one two s own e more h =
+    let first = owns_first b s in
+    let both = and_right (is_side first own) (begins_inside b one e.inside && begins b one first e.behind) h in
+    and_from (is_side first own) (begins_inside b two e.inside && begins b two first e.behind) (and_left (is_side first own) _ h)
+    (and_from (begins_inside b two e.inside) (begins b two first e.behind) (inside_more b one two e.inside more (and_left (begins_inside b one e.inside) _ both))
+    (begins_more b one two first e.behind more (and_right (begins_inside b one e.inside) _ both)))
+
 pub alike_more : (a : Automaton) (owned : ℕ → Owned) (count : ℕ) (one two : State → Bool) (s : State) → IsIn one two → IsAlikeFor a owned count one s → IsAlikeFor a owned count two s
 alike_more a owned count one two s more h x lt = record {
-  labels = λ n m e.
-      let b = owned x in
-      let first = owns_first b s in
-      let is = (h x lt).labels n m e in
-      let both = and_right (is_side first (b.element s n)) (begins b one false m.content && begins b one first m.rest) is in
-      and_from (is_side first (b.element s n)) (begins b two false m.content && begins b two first m.rest) (and_left (is_side first (b.element s n)) _ is)
-      (and_from (begins b two false m.content) (begins b two first m.rest) (begins_more b one two false m.content more (and_left (begins b one false m.content) _ both))
-      (begins_more b one two first m.rest more (and_right (begins b one false m.content) _ both)));
-  texts = λ n m e.
-      let b = owned x in
-      let first = owns_first b s in
-      let is = (h x lt).texts n m e in
-      and_from (is_side first (b.text s n)) (begins b two first m.rest) (and_left (is_side first (b.text s n)) _ is)
-      (begins_more b one two first m.rest more (and_right (is_side first (b.text s n)) _ is));
+  labels = λ n m e. move_more (owned x) one two s ((owned x).element s n) (label_ends m) more ((h x lt).labels n m e);
+  texts = λ n m e. move_more (owned x) one two s ((owned x).text s n) (text_ends m) more ((h x lt).texts n m e);
 }
 
 -- one mark less

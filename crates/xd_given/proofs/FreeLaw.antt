@@ -11,6 +11,8 @@ use Rattle.xd_auto.specs.declared.auto.State.{State}
 use Rattle.xd_auto.specs.declared.auto.LabelMove.{LabelMove}
 use Rattle.xd_auto.specs.declared.auto.TextMove.{TextMove}
 use Rattle.xd_auto.specs.Automaton.{Automaton, IsState, StateMoves, accepts, moves_at}
+use Rattle.xd_auto.specs.Leading.{label_ends, text_ends}
+use Rattle.xd_auto.specs.declared.leading.Ends.{Ends}
 use Rattle.xd_auto.specs.Traces.{Owned, trace_of}
 use Rattle.xd_least.specs.Least.{Knows, known_of}
 use Rattle.xd_least.specs.declared.document.LeastDocument.{LeastDocument}
@@ -20,7 +22,7 @@ use Rattle.xd_points.specs.Meaning.{ServePoints, may_leave_out}
 use Rattle.xd_points.specs.Points.{point_at}
 use Rattle.xd_points.specs.Tables.{IsTableOf, is_left, left_of, pattern_of, point_count, point_means, points_of}
 use Rattle.xd_points.proofs.MeaningLaw.{old_means}
-use Rattle.xd_given.specs.Free.{AreFree, CanFinish, at_once, by_element, by_text, label_goes, text_goes}
+use Rattle.xd_given.specs.Free.{AreFree, CanFinish, at_once, NoneGoesOn, by_element, by_text, goes_free, inside_in}
 use Rattle.xd_given.specs.Outline.{IsDrawing, can_stop, leaf_free}
 use Rattle.xd_given.specs.Owning.{GivesAlike, IsWhole, LeavesOutAlike, owns_first, point_moves}
 use Rattle.xd_given.specs.Traced.{FreeFrom, HasRunAt, Traced}
@@ -160,21 +162,14 @@ module _ (a : Automaton) (p : PatternStates) (t : PointTable) (b : Owned) (is : 
     point_there s lt = omega (arith, lt, drawn.sized, is.expanded.whole.count)
 
     -- moves of others lead back to what can be completed
-    text_back : (s : State) (n : ℕ) (m : TextMove) → s.number < point_count t → slice_get (moves_at drawing s).texts n ≡ Some m → (point_moves t b).text s n ≡ false → set m.rest ≡ true → set s ≡ true
-    text_back s n m lt there own rest = decide (set s) refl
-      where
-        decide : (v : Bool) → set s ≡ v → set s ≡ true
-        decide true e = e
-        decide false e = true_false (text_goes (point_moves t b) set s n m) (and_from (set m.rest) (not ((point_moves t b).text s n)) rest (ap not own)) ((are.settled s (point_there s lt) e).texts n m there)
-
-    label_back : (s : State) (n : ℕ) (m : LabelMove) → s.number < point_count t → slice_get (moves_at drawing s).labels n ≡ Some m → (point_moves t b).element s n ≡ false → set m.content ≡ true → set m.rest ≡ true → set s ≡ true
-    label_back s n m lt there own content rest = decide (set s) refl
+    back : {M : Type 0} (ends : M → Ends) (owned : ℕ → Bool) (moves : List M) (s : State) (n : ℕ) (m : M) → (set s ≡ false → NoneGoesOn ends owned set moves) → slice_get moves n ≡ Some m → owned n ≡ false → inside_in set (ends m).inside ≡ true → set (ends m).behind ≡ true → set s ≡ true
+    back ends owned moves s n m none there own inside behind = decide (set s) refl
       where
         decide : (v : Bool) → set s ≡ v → set s ≡ true
         decide true e = e
         decide false e =
-            let behind = and_from (set m.rest) (not ((point_moves t b).element s n)) rest (ap not own) in
-            true_false (label_goes (point_moves t b) set s n m) (and_from (set m.content) (set m.rest && not ((point_moves t b).element s n)) content behind) ((are.settled s (point_there s lt) e).labels n m there)
+            let free = and_from (set (ends m).behind) (not (owned n)) behind (ap not own) in
+            true_false (goes_free owned set n (ends m)) (and_from (inside_in set (ends m).inside) (set (ends m).behind && not (owned n)) inside free) (none e n m there)
 
     stops : (s : State) (v : Bool) → s.number < point_count t → is_left p t s ≡ v → cond v (leaf s) (moves_at drawing s).last ≡ true → set s ≡ true
     stops s v lt left e = are.stop s (point_there s lt) (ap (λ w. cond w (leaf s) (moves_at drawing s).last) left ∙ e)
@@ -198,13 +193,15 @@ module _ (a : Automaton) (p : PatternStates) (t : PointTable) (b : Owned) (is : 
     free_run (text c d) s at_end lt h f = absurd h
     free_run (text c d) s (at_text own r) lt (inl h) f = left_goes (text c d) s (at_text own r) lt h.left (inl h) f
     free_run (text c d) s (at_text own r) lt (inr (yet, h)) f =
-        text_back s h.number h.step lt (ap (λ (w : StateMoves). slice_get w.texts h.number) (drawn.other s lt yet) ∙ h.there) (h.owned ∙ f.0)
+        back text_ends ((point_moves t b).text s) (moves_at drawing s).texts s h.number h.step (λ e. (are.settled s (point_there s lt) e).texts)
+        (ap (λ (w : StateMoves). slice_get w.texts h.number) (drawn.other s lt yet) ∙ h.there) (h.owned ∙ f.0) refl
         (free_run d h.step.rest r (text_within a p t b is s h.number h.step lt yet h.there) h.rest f.1)
     free_run (text c d) s (at_element own k r) lt h f = absurd h
     free_run (element l c d) s at_end lt h f = absurd h
     free_run (element l c d) s (at_text own r) lt h f = absurd h
     free_run (element l c d) s (at_element own k r) lt (inl h) f = left_goes (element l c d) s (at_element own k r) lt h.left (inl h) f
     free_run (element l c d) s (at_element own k r) lt (inr (yet, h)) f =
-        label_back s h.number h.step lt (ap (λ (w : StateMoves). slice_get w.labels h.number) (drawn.other s lt yet) ∙ h.there) (h.owned ∙ f.0)
+        back label_ends ((point_moves t b).element s) (moves_at drawing s).labels s h.number h.step (λ e. (are.settled s (point_there s lt) e).labels)
+        (ap (λ (w : StateMoves). slice_get w.labels h.number) (drawn.other s lt yet) ∙ h.there) (h.owned ∙ f.0)
         (free_run c h.step.content k (content_within a p t b is s h.number h.step lt yet h.there) h.content f.1)
         (free_run d h.step.rest r (rest_within a p t b is s h.number h.step lt yet h.there) h.rest f.2)

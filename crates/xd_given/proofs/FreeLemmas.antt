@@ -1,25 +1,31 @@
 -- How states that can be completed without a variable are marked.
-use Rattle.std.proofs.Common.{◌≡◌, ◌≢◌, ◌∙◌, ⊎_elim, ℕ, ◌+◌, ◌-◌, ◌<◌, Bool, true, false, not, ◌&&◌, List, [], ◌∷◌, ◌++◌, length, get_or, set, get_or-set_same, get_or-set_other, refl, sym, ap, subst, arith}
+use Rattle.std.proofs.Common.{◌≡◌, ◌≢◌, ◌∙◌, ⊎_elim, inl, inr, ℕ, ◌+◌, ◌-◌, ◌<◌, Bool, true, false, not, ◌&&◌, List, [], ◌∷◌, ◌++◌, length, get_or, set, get_or-set_same, get_or-set_other, refl, sym, ap, subst, arith}
 use Rattle.std.proofs.lemmas.Bool.{cases_eq, not-true}
 use Rattle.std.proofs.lemmas.List.{get_or_append_left, get_or-append_right}
 use Rattle.xd_doc.proofs.Bools.{and_left, and_right}
 use Rattle.xd_auto.specs.declared.auto.State.{State}
+use Rattle.xd_auto.specs.declared.auto.LabelMove.{LabelMove}
+use Rattle.xd_auto.specs.declared.auto.TextMove.{TextMove}
 use Rattle.xd_auto.specs.Automaton.{Automaton, IsState}
 use Rattle.xd_auto.proofs.Closed.{same_state}
 use Rattle.xd_auto.specs.Traces.{Owned}
 use Rattle.xd_empty.specs.Parts.{is_marked}
-use Rattle.xd_given.specs.Free.{AreSound, CanFinish, GoesOn, at_once, by_element, by_text, label_on, text_on}
+use Rattle.xd_given.specs.Free.{AreSound, CanFinish, GoesOn, at_once, by_element, by_text}
 use Rattle.xd_given.proofs.AlikeLaw.{marked_within}
 
 module _ (a : Automaton) (b : Owned) (stops : State → Bool) where
   -- a state whose move leads to such as can be completed
   completed : (marks : State → Bool) (s : State) → AreSound a b stops marks → GoesOn a b marks s → CanFinish a b stops s
-  completed marks s sound (text_on n m there some goes) =
-      by_text s m n there (not-true (b.text s n) (and_right (marks m.rest) _ goes)) some (sound m.rest (and_left (marks m.rest) (not (b.text s n)) goes))
-  completed marks s sound (label_on n m there some goes) =
-      let behind = and_right (marks m.content) (marks m.rest && not (b.element s n)) goes in
-      by_element s m n there (not-true (b.element s n) (and_right (marks m.rest) _ behind)) some (sound m.content (and_left (marks m.content) (marks m.rest && not (b.element s n)) goes))
+  completed marks s sound (inl on) =
+      let m : LabelMove = on.move in
+      let n = on.number in
+      let behind = and_right (marks m.content) (marks m.rest && not (b.element s n)) on.goes in
+      by_element s m n on.there (not-true (b.element s n) (and_right (marks m.rest) _ behind)) on.filled (sound m.content (and_left (marks m.content) (marks m.rest && not (b.element s n)) on.goes))
       (sound m.rest (and_left (marks m.rest) (not (b.element s n)) behind))
+  completed marks s sound (inr on) =
+      let m : TextMove = on.move in
+      let n = on.number in
+      by_text s m n on.there (not-true (b.text s n) (and_right (marks m.rest) _ on.goes)) on.filled (sound m.rest (and_left (marks m.rest) (not (b.text s n)) on.goes))
 
   -- marks that are found by moves
   pub sound_more : (old new : State → Bool) → ((s : State) → new s ≡ true → old s ≡ false → GoesOn a b old s) → AreSound a b stops old → AreSound a b stops new

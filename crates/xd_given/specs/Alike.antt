@@ -1,9 +1,11 @@
 -- States whose moves tell that they give each variable nothing, or all that they take.
-use Rattle.std.specs.Prelude.{◌≡◌, ℕ, ◌+◌, ◌<◌, ◌&&◌, Bool, true, false, not, cond, List, [], ◌∷◌, slice_get, Some}
+use Rattle.std.specs.Prelude.{◌≡◌, ℕ, ◌+◌, ◌<◌, ◌&&◌, Bool, true, false, not, cond, List, [], ◌∷◌, Option, slice_get, Some, None}
 use Rattle.xd_auto.specs.declared.auto.State.{State}
 use Rattle.xd_auto.specs.declared.auto.LabelMove.{LabelMove}
 use Rattle.xd_auto.specs.declared.auto.TextMove.{TextMove}
+use Rattle.xd_auto.specs.declared.leading.Ends.{Ends}
 use Rattle.xd_auto.specs.Automaton.{Automaton, moves_at}
+use Rattle.xd_auto.specs.Leading.{label_ends, text_ends}
 use Rattle.xd_auto.specs.Traces.{Owned}
 use Rattle.xd_given.specs.Owning.{owns_first}
 
@@ -15,18 +17,20 @@ is_side own v = cond own v (not v)
 abbrev pub begins : Owned → (State → Bool) → Bool → State → Bool
 begins b set first s = set s && is_side first (owns_first b s)
 
--- whether the move is the variable's where the state's first one is, what follows begins so, and
--- the content with none; both in the set
-abbrev pub alike_label : Owned → (State → Bool) → State → ℕ → LabelMove → Bool
-alike_label b set s n m = is_side (owns_first b s) (b.element s n) && (begins b set false m.content && begins b set (owns_first b s) m.rest)
+-- the content, where there is one, begins with none
+abbrev pub begins_inside : Owned → (State → Bool) → Option State → Bool
+begins_inside b set None = true
+begins_inside b set (Some s) = begins b set false s
 
-abbrev pub alike_text : Owned → (State → Bool) → State → ℕ → TextMove → Bool
-alike_text b set s n m = is_side (owns_first b s) (b.text s n) && begins b set (owns_first b s) m.rest
+-- whether a move is the variable's where the state's first one is, what follows begins so, and the
+-- content with none; both in the set
+abbrev pub alike_move : Owned → (State → Bool) → State → Bool → Ends → Bool
+alike_move b set s own e = is_side (owns_first b s) own && (begins_inside b set e.inside && begins b set (owns_first b s) e.behind)
 
 -- all moves of the state are such
 pub record IsAlike (a : Automaton) (b : Owned) (set : State → Bool) (s : State) : Type 0 where
-  pub labels : (n : ℕ) (m : LabelMove) → slice_get (moves_at a s).labels n ≡ Some m → alike_label b set s n m ≡ true
-  pub texts : (n : ℕ) (m : TextMove) → slice_get (moves_at a s).texts n ≡ Some m → alike_text b set s n m ≡ true
+  pub labels : (n : ℕ) (m : LabelMove) → slice_get (moves_at a s).labels n ≡ Some m → alike_move b set s (b.element s n) (label_ends m) ≡ true
+  pub texts : (n : ℕ) (m : TextMove) → slice_get (moves_at a s).texts n ≡ Some m → alike_move b set s (b.text s n) (text_ends m) ≡ true
 
 -- for each variable
 abbrev pub IsAlikeFor : Automaton → (ℕ → Owned) → ℕ → (State → Bool) → State → Type 0

@@ -1,10 +1,12 @@
 -- Which states of an automaton can be completed without a variable.
-use Rattle.std.specs.Prelude.{◌≡◌, ℕ, Bool, true, false, not, ◌&&◌, slice_get, Some}
+use Rattle.std.specs.Prelude.{◌≡◌, ◌⊎◌, ℕ, Bool, true, false, not, ◌&&◌, List, Option, slice_get, Some, None}
 use Rattle.xd_doc.specs.ClassForms.{HasLabel, HasText}
 use Rattle.xd_auto.specs.declared.auto.State.{State}
 use Rattle.xd_auto.specs.declared.auto.LabelMove.{LabelMove}
 use Rattle.xd_auto.specs.declared.auto.TextMove.{TextMove}
+use Rattle.xd_auto.specs.declared.leading.Ends.{Ends}
 use Rattle.xd_auto.specs.Automaton.{Automaton, IsState, moves_at}
+use Rattle.xd_auto.specs.Leading.{LabelFilled, TextFilled, label_ends, text_ends}
 use Rattle.xd_auto.specs.Traces.{Owned}
 
 -- the state can stop, or a move of it that doesn't belong to the variable leads to states that can
@@ -15,22 +17,35 @@ pub data CanFinish (a : Automaton) (b : Owned) (stops : State → Bool) : State 
   by_element : (s : State) (m : LabelMove) (n : ℕ) → slice_get (moves_at a s).labels n ≡ Some m → b.element s n ≡ false → HasLabel m.class → CanFinish a b stops m.content → CanFinish a b stops m.rest
       → CanFinish a b stops s
 
--- the move doesn't belong to the variable, and leads to states of the set
-abbrev pub text_goes : Owned → (State → Bool) → State → ℕ → TextMove → Bool
-text_goes b set s n m = set m.rest && not (b.text s n)
+-- the state, where there is one, is in the set
+abbrev pub inside_in : (State → Bool) → Option State → Bool
+inside_in set None = true
+inside_in set (Some s) = set s
 
-abbrev pub label_goes : Owned → (State → Bool) → State → ℕ → LabelMove → Bool
-label_goes b set s n m = set m.content && (set m.rest && not (b.element s n))
+-- a move doesn't belong to the variable, and leads to states of the set
+abbrev pub goes_free : (ℕ → Bool) → (State → Bool) → ℕ → Ends → Bool
+goes_free owned set n e = inside_in set e.inside && (set e.behind && not (owned n))
+
+-- some move of a kind does
+pub record GoesOnBy {M : Type 0} (Filled : M → Type 0) (ends : M → Ends) (owned : ℕ → Bool) (set : State → Bool) (moves : List M) : Type 0 where
+  pub number : ℕ
+  pub move : M
+  pub there : slice_get moves number ≡ Some move
+  pub filled : Filled move
+  pub goes : goes_free owned set number (ends move) ≡ true
+
+-- none does
+abbrev pub NoneGoesOn : {M : Type 0} → (M → Ends) → (ℕ → Bool) → (State → Bool) → List M → Type 0
+NoneGoesOn {M} ends owned set moves = (n : ℕ) (m : M) → slice_get moves n ≡ Some m → goes_free owned set n (ends m) ≡ false
 
 -- some move of the state does
-pub data GoesOn (a : Automaton) (b : Owned) (set : State → Bool) (s : State) : Type 0 where
-  text_on : (n : ℕ) (m : TextMove) → slice_get (moves_at a s).texts n ≡ Some m → HasText m.words → text_goes b set s n m ≡ true → GoesOn a b set s
-  label_on : (n : ℕ) (m : LabelMove) → slice_get (moves_at a s).labels n ≡ Some m → HasLabel m.class → label_goes b set s n m ≡ true → GoesOn a b set s
+abbrev pub GoesOn : Automaton → Owned → (State → Bool) → State → Type 0
+GoesOn a b set s = GoesOnBy LabelFilled label_ends (b.element s) set (moves_at a s).labels ⊎ GoesOnBy TextFilled text_ends (b.text s) set (moves_at a s).texts
 
 -- none does
 pub record GoesNowhere (a : Automaton) (b : Owned) (set : State → Bool) (s : State) : Type 0 where
-  pub texts : (n : ℕ) (m : TextMove) → slice_get (moves_at a s).texts n ≡ Some m → text_goes b set s n m ≡ false
-  pub labels : (n : ℕ) (m : LabelMove) → slice_get (moves_at a s).labels n ≡ Some m → label_goes b set s n m ≡ false
+  pub texts : NoneGoesOn text_ends (b.text s) set (moves_at a s).texts
+  pub labels : NoneGoesOn label_ends (b.element s) set (moves_at a s).labels
 
 -- each state of the set can be completed
 abbrev pub AreSound : Automaton → Owned → (State → Bool) → (State → Bool) → Type 0

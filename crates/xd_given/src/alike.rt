@@ -2,16 +2,17 @@
 
 ghost use Rattle.std.specs.Prelude.{◌≡◌, ◌<◌, ℕ, ◌+◌, ◌≤◌, Bool, false, true, IfOk, length};
 ghost use Rattle.xd_auto.specs.declared.auto.State.{State as StateView};
-ghost use Rattle.xd_auto.specs.Automaton.{IsState, state_number};
+ghost use Rattle.xd_auto.specs.Automaton.{IsState, moves_at, state_number};
 ghost use Rattle.xd_empty.specs.Parts.{is_marked};
 ghost use Rattle.xd_given.specs.Alike.{IsAlikeFor, IsAlikeSet, IsIn, marked_count};
-ghost use Rattle.xd_given.specs.Belonging.{BelongAlike, IsAlikeLabel, IsAlikeText, TheseBelongAlike, owns};
+ghost use Rattle.xd_given.specs.Belonging.{AreAlikeMoves, BelongAlike, IsAlikeMove, TheseBelongAlike, owns};
 ghost use Rattle.xd_given.specs.Owning.{GivesAlike};
 
+use crate::free::is_inside_marked;
 use crate::owner::owns_first;
 use crate::tells::TellsVariables;
 use std::alloc::Global;
-use xd_auto::{Auto, LabelMove, State, TextMove};
+use xd_auto::{Auto, Ends, LabelMove, Leads, State, TextMove};
 use xd_bind::{Holds, MoveKind};
 use xd_boole::is_marked;
 use xd_doc::NoMemory;
@@ -93,46 +94,57 @@ fn belong_alike<H: TellsVariables>(owner: &H, count: usize, one: Moves, two: Mov
         && listed_belong_alike(owner, count, two, one, two)
 }
 
-/// Whether for each of so many variables a move on an element is the variable's where the state's
-/// first one is, and the marked states that it leads to go on so, with nothing of it in contents.
-fn is_alike_label<H: TellsVariables>(
+/// Whether for each of so many variables a move of a kind is the variable's where the state's first
+/// one is, and the marked states that it leads to go on so, with nothing of it in contents.
+fn is_alike<H: TellsVariables>(
     owner: &H,
     count: usize,
     marks: &[bool],
     state: State,
+    kind: MoveKind,
     number: usize,
-    step: &LabelMove,
+    ends: Ends,
 ) -> bool
-    ensures alike { result ≡ true → IsAlikeLabel (H.owned owner.now) count (is_marked marks.now) state number step.now }
-    ensures all { 0 < count → IsAlikeLabel (H.owned owner.now) count (is_marked marks.now) state number step.now → result ≡ true }
+    ensures alike { result ≡ true → IsAlikeMove (H.owned owner.now) count (is_marked marks.now) state kind number ends }
+    ensures all { 0 < count → IsAlikeMove (H.owned owner.now) count (is_marked marks.now) state kind number ends → result ≡ true }
 {
-    if !is_marked(marks, step.content) || !is_marked(marks, step.rest) {
+    if !is_inside_marked(marks, ends.inside) || !is_marked(marks, ends.behind) {
         return false;
     }
     let first = Moves::First(state);
-    let own = Moves::One(state, MoveKind::Label, number);
-    belong_alike(owner, count, first, own)
-        && belong_alike(owner, count, first, Moves::First(step.rest))
-        && belong_alike(owner, count, Moves::Nothing, Moves::First(step.content))
+    let own = Moves::One(state, kind, number);
+    if !belong_alike(owner, count, first, own)
+        || !belong_alike(owner, count, first, Moves::First(ends.behind))
+    {
+        return false;
+    }
+    match ends.inside {
+        Some(inside) => belong_alike(owner, count, Moves::Nothing, Moves::First(inside)),
+        None => true,
+    }
 }
 
-/// The same on a text.
-fn is_alike_text<H: TellsVariables>(
+/// Whether all moves of a state are such, of a kind.
+fn moves_are_alike<M: Leads, H: TellsVariables>(
+    auto: &Auto,
     owner: &H,
     count: usize,
     marks: &[bool],
     state: State,
-    number: usize,
-    step: &TextMove,
 ) -> bool
-    ensures alike { result ≡ true → IsAlikeText (H.owned owner.now) count (is_marked marks.now) state number step.now }
-    ensures all { 0 < count → IsAlikeText (H.owned owner.now) count (is_marked marks.now) state number step.now → result ≡ true }
+    requires state { IsState auto.now state }
+    requires some { 0 < count }
+    ensures alike { result ≡ true → AreAlikeMoves M.ends_of (H.owned owner.now) count (is_marked marks.now) state M.KIND (M.moves_in (moves_at auto.now state)) }
+    ensures all { AreAlikeMoves M.ends_of (H.owned owner.now) count (is_marked marks.now) state M.KIND (M.moves_in (moves_at auto.now state)) → result ≡ true }
 {
-    let first = Moves::First(state);
-    let own = Moves::One(state, MoveKind::Text, number);
-    is_marked(marks, step.rest)
-        && belong_alike(owner, count, first, own)
-        && belong_alike(owner, count, first, Moves::First(step.rest))
+    let moves = M::moves(auto, state);
+    for number in 0..moves.len() {
+        let ends = moves[number].ends();
+        if !is_alike(owner, count, marks, state, M::KIND, number, ends) {
+            return false;
+        }
+    }
+    true
 }
 
 /// Whether all moves of a state are such.
@@ -147,22 +159,9 @@ fn are_alike<H: TellsVariables>(
     ensures alike { result ≡ true → IsAlikeFor auto.now (H.owned owner.now) count (is_marked marks.now) state }
     ensures all { IsAlikeFor auto.now (H.owned owner.now) count (is_marked marks.now) state → result ≡ true }
 {
-    if count == 0 {
-        return true;
-    }
-    let labels = auto.label_moves(state);
-    for number in 0..labels.len() {
-        if !is_alike_label(owner, count, marks, state, number, &labels[number]) {
-            return false;
-        }
-    }
-    let texts = auto.text_moves(state);
-    for place in 0..texts.len() {
-        if !is_alike_text(owner, count, marks, state, place, &texts[place]) {
-            return false;
-        }
-    }
-    true
+    count == 0
+        || (moves_are_alike::<LabelMove, H>(auto, owner, count, marks, state)
+            && moves_are_alike::<TextMove, H>(auto, owner, count, marks, state))
 }
 
 /// Takes the mark of a state away whose moves aren't such, and says whether it did.

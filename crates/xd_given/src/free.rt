@@ -2,49 +2,68 @@
 
 ghost use Rattle.std.specs.Prelude.{◌≡◌, ◌<◌, Bool, true, false, IfOk, length};
 ghost use Rattle.xd_auto.specs.declared.auto.State.{State as StateView};
-ghost use Rattle.xd_auto.specs.Automaton.{IsState, state_number};
+ghost use Rattle.xd_auto.specs.Automaton.{IsState, moves_at, state_number};
 ghost use Rattle.xd_bind.specs.Marks.{unmarked};
+ghost use Rattle.xd_bind.specs.Owning.{is_owned};
 ghost use Rattle.xd_empty.specs.Parts.{is_marked};
 ghost use Rattle.xd_points.specs.Tables.{left_of, point_count};
-ghost use Rattle.xd_given.specs.Free.{AreFree, AreSettled, AreSound, GoesNowhere, GoesOn, label_goes, text_goes};
+ghost use Rattle.xd_given.specs.Free.{AreFree, AreSettled, AreSound, GoesNowhere, GoesOn, GoesOnBy, NoneGoesOn, goes_free, inside_in};
 ghost use Rattle.xd_given.specs.Outline.{can_stop, leaf_free};
 ghost use Rattle.xd_given.specs.Owning.{point_moves};
 
 use crate::owner::{PointOwner, leaf_free};
 use std::alloc::Global;
-use xd_auto::{Auto, LabelMove, State, TextMove};
-use xd_bind::{Holds, MoveKind};
+use xd_auto::{Auto, Ends, LabelMove, Leads, State, TextMove};
+use xd_bind::Holds;
 use xd_boole::is_marked;
 use xd_doc::NoMemory;
 use xd_least::LeastInhabitants;
 
-/// Whether a move on an element doesn't belong to the variable, and leads to marked states.
-fn label_goes<H: Holds>(
-    owner: &H,
-    variable: usize,
-    marks: &[bool],
-    state: State,
-    number: usize,
-    step: &LabelMove,
-) -> bool
-    ensures { result ≡ label_goes (H.owned owner.now variable) (is_marked marks.now) state number step.now }
+/// Whether the state inside a move, where there is one, is marked.
+pub(crate) fn is_inside_marked(marks: &[bool], inside: Option<State>) -> bool
+    ensures { result ≡ inside_in (is_marked marks.now) inside }
 {
-    is_marked(marks, step.content)
-        && (is_marked(marks, step.rest) && !owner.holds(state, MoveKind::Label, number, variable))
+    match inside {
+        Some(inside) => is_marked(marks, inside),
+        None => true,
+    }
 }
 
-/// The same on a text.
-fn text_goes<H: Holds>(
+/// Whether a move of a kind doesn't belong to the variable, and leads to marked states.
+fn goes_free<M: Leads, H: Holds>(
     owner: &H,
     variable: usize,
     marks: &[bool],
     state: State,
     number: usize,
-    step: &TextMove,
+    ends: Ends,
 ) -> bool
-    ensures { result ≡ text_goes (H.owned owner.now variable) (is_marked marks.now) state number step.now }
+    ensures { result ≡ goes_free (is_owned (H.owned owner.now variable) M.KIND state) (is_marked marks.now) number ends }
 {
-    is_marked(marks, step.rest) && !owner.holds(state, MoveKind::Text, number, variable)
+    is_inside_marked(marks, ends.inside)
+        && (is_marked(marks, ends.behind) && !owner.holds(state, M::KIND, number, variable))
+}
+
+/// Whether some move of a state does, of this kind.
+fn goes_on_by<M: Leads, H: Holds>(
+    auto: &Auto,
+    owner: &H,
+    variable: usize,
+    marks: &[bool],
+    state: State,
+) -> bool
+    requires { IsState auto.now state }
+    ensures some { result ≡ true → GoesOnBy M.Filled M.ends_of (is_owned (H.owned owner.now variable) M.KIND state) (is_marked marks.now) (M.moves_in (moves_at auto.now state)) }
+    ensures none { result ≡ false → NoneGoesOn M.ends_of (is_owned (H.owned owner.now variable) M.KIND state) (is_marked marks.now) (M.moves_in (moves_at auto.now state)) }
+{
+    let moves = M::moves(auto, state);
+    for number in 0..moves.len() {
+        let ends = moves[number].ends();
+        if goes_free::<M, H>(owner, variable, marks, state, number, ends) {
+            return true;
+        }
+    }
+    false
 }
 
 /// Whether some move of a state does.
@@ -53,23 +72,8 @@ fn goes_on<H: Holds>(auto: &Auto, owner: &H, variable: usize, marks: &[bool], st
     ensures some { result ≡ true → GoesOn auto.now (H.owned owner.now variable) (is_marked marks.now) state }
     ensures none { result ≡ false → GoesNowhere auto.now (H.owned owner.now variable) (is_marked marks.now) state }
 {
-    let labels = auto.label_moves(state);
-    for number in 0..labels.len() {
-        let step = &labels[number];
-        step.class.has_some();
-        if label_goes(owner, variable, marks, state, number, step) {
-            return true;
-        }
-    }
-    let texts = auto.text_moves(state);
-    for place in 0..texts.len() {
-        let step = &texts[place];
-        step.words.has_some();
-        if text_goes(owner, variable, marks, state, place, step) {
-            return true;
-        }
-    }
-    false
+    goes_on_by::<LabelMove, H>(auto, owner, variable, marks, state)
+        || goes_on_by::<TextMove, H>(auto, owner, variable, marks, state)
 }
 
 /// Marks a state some move of which does, and says whether it had no mark.

@@ -20,14 +20,14 @@ ghost use Rattle.xd_given.specs.Traced.{AcceptsGivenAt, AreGivensAt};
 
 use crate::blocks::add_blocks;
 use crate::outline::{draw, outline};
-use crate::owner::PointOwner;
+use crate::owner::{PatternVariables, PointOwner};
 use crate::union::union_of;
 use std::alloc::Global;
 use xd_auto::{Auto, State};
 use xd_bind::{Given, Holds};
 use xd_doc::{Label, NoMemory, Store};
 use xd_least::LeastInhabitants;
-use xd_points::{PatternStates, PointTable};
+use xd_points::{PointParts, PointTable};
 
 /// For each point a state that accepts exactly what the point means: its place, or a new state that
 /// accepts nothing.
@@ -132,25 +132,21 @@ fn given_alone<H: Holds>(
     alloc: Global,
     auto: &mut Auto,
     first: bool,
-    patterns: &PatternStates,
-    owner: &H,
-    variables: &[Label],
-    left: State,
-    pattern: State,
-    rights: &[State],
+    of: &PatternVariables<H>,
+    asked: PointParts<'_>,
     known: &mut LeastInhabitants,
     store: &mut Store,
 ) -> Result<Option<Vec<Given>>, NoMemory>
-    requires patterns { ServePoints auto.old patterns.now }
-    requires left { IsState auto.old left }
-    requires pattern { IsState patterns.now.auto pattern }
-    requires rights { AllByRecursion (IsState patterns.now.auto) rights.now }
-    requires alike { (x : ℕ) → x < length variables.now → LeavesOutAlike patterns.now (H.owned owner.now x) }
-    requires together { (x : ℕ) → x < length variables.now → KeepsTogether patterns.now.auto (H.owned owner.now x) pattern }
+    requires patterns { ServePoints auto.old of.now.patterns.now }
+    requires left { IsState auto.old asked.left }
+    requires pattern { IsState of.now.patterns.now.auto asked.pattern }
+    requires rights { AllByRecursion (IsState of.now.patterns.now.auto) asked.rights.now }
+    requires alike { (x : ℕ) → x < length of.now.variables.now → LeavesOutAlike of.now.patterns.now (H.owned of.now.owner.now x) }
+    requires together { (x : ℕ) → x < length of.now.variables.now → KeepsTogether of.now.patterns.now.auto (H.owned of.now.owner.now x) asked.pattern }
     requires known { Knows auto.old store.old known.old }
-    ensures none { result ≡ Ok None → (d : Document) → takes_alone auto.old patterns.now left pattern rights.now d ≡ false }
-    ensures shared { IfOk result (λ found. IfSome found (λ givens. IsSharedAlone auto.old patterns.now left pattern rights.now)) }
-    ensures givens { IfOk result (λ found. IfSome found (λ givens. AreGivensFor (IsGivenAloneBy first auto.old patterns.now left pattern rights.now) (H.owned owner.now) variables.now auto.new givens.items)) }
+    ensures none { result ≡ Ok None → (d : Document) → takes_alone auto.old of.now.patterns.now asked.entry.left asked.entry.pattern asked.entry.rights.now d ≡ false }
+    ensures shared { IfOk result (λ found. IfSome found (λ givens. IsSharedAlone auto.old of.now.patterns.now asked.entry.left asked.entry.pattern asked.entry.rights.now)) }
+    ensures givens { IfOk result (λ found. IfSome found (λ givens. AreGivensFor (IsGivenAloneBy first auto.old of.now.patterns.now asked.entry.left asked.entry.pattern asked.entry.rights.now) (H.owned of.now.owner.now) of.now.variables.now auto.new givens.items)) }
     ensures extends { Extends auto.old auto.new }
     ensures keeps { Keeps store.old store.new }
     ensures known { Knows auto.new store.new known.new }
@@ -158,7 +154,7 @@ fn given_alone<H: Holds>(
     let _states = auto.len();
     known.stays_known();
     let mut table = PointTable::of_runs(alloc, first);
-    let start = table.find(alloc, auto, patterns, left, pattern, rights)?;
+    let start = table.find(alloc, auto, of.patterns, asked)?;
     let _length = auto.len();
     known.learn(alloc, auto, store)?;
     let Some(place) = table.place(start) else {
@@ -167,20 +163,20 @@ fn given_alone<H: Holds>(
     let Some(_document) = known.document(place) else {
         return Ok(None);
     };
-    if variables.is_empty() {
+    if of.variables.is_empty() {
         return Ok(Some(Vec::new(alloc)));
     }
     known.stays_known();
-    let drawing = draw(alloc, &table, patterns)?;
+    let drawing = draw(alloc, &table, of.patterns)?;
     let places = places_of(alloc, auto, &table)?;
     let _more = auto.len();
-    let of = PointOwner {
+    let points = PointOwner {
         table: &table,
-        patterns,
+        patterns: of.patterns,
         drawing: &drawing,
-        owner,
+        owner: of.owner,
     };
-    let givens = add_givens(alloc, auto, &of, known, &places, variables, start)?;
+    let givens = add_givens(alloc, auto, &points, known, &places, of.variables, start)?;
     Ok(Some(givens))
 }
 
@@ -199,32 +195,26 @@ fn given_alone<H: Holds>(
 pub fn bindings<H: Holds>(
     alloc: Global,
     auto: &mut Auto,
-    patterns: &PatternStates,
-    owner: &H,
-    variables: &[Label],
-    left: State,
-    pattern: State,
-    rights: &[State],
+    of: &PatternVariables<H>,
+    asked: PointParts<'_>,
     known: &mut LeastInhabitants,
     store: &mut Store,
 ) -> Result<Option<Vec<Given>>, NoMemory>
-    requires patterns { ServePoints auto.old patterns.now }
-    requires left { IsState auto.old left }
-    requires pattern { IsState patterns.now.auto pattern }
-    requires rights { AllByRecursion (IsState patterns.now.auto) rights.now }
-    requires alike { (x : ℕ) → x < length variables.now → LeavesOutAlike patterns.now (H.owned owner.now x) }
-    requires together { (x : ℕ) → x < length variables.now → KeepsTogether patterns.now.auto (H.owned owner.now x) pattern }
+    requires patterns { ServePoints auto.old of.now.patterns.now }
+    requires left { IsState auto.old asked.left }
+    requires pattern { IsState of.now.patterns.now.auto asked.pattern }
+    requires rights { AllByRecursion (IsState of.now.patterns.now.auto) asked.rights.now }
+    requires alike { (x : ℕ) → x < length of.now.variables.now → LeavesOutAlike of.now.patterns.now (H.owned of.now.owner.now x) }
+    requires together { (x : ℕ) → x < length of.now.variables.now → KeepsTogether of.now.patterns.now.auto (H.owned of.now.owner.now x) asked.pattern }
     requires known { Knows auto.old store.old known.old }
-    ensures none { result ≡ Ok None → (d : Document) → takes_alone auto.old patterns.now left pattern rights.now d ≡ false }
-    ensures shared { IfOk result (λ found. IfSome found (λ givens. IsSharedAlone auto.old patterns.now left pattern rights.now)) }
-    ensures givens { IfOk result (λ found. IfSome found (λ givens. AreGivensAlone auto.old patterns.now (H.owned owner.now) left pattern rights.now variables.now auto.new givens.items)) }
+    ensures none { result ≡ Ok None → (d : Document) → takes_alone auto.old of.now.patterns.now asked.entry.left asked.entry.pattern asked.entry.rights.now d ≡ false }
+    ensures shared { IfOk result (λ found. IfSome found (λ givens. IsSharedAlone auto.old of.now.patterns.now asked.entry.left asked.entry.pattern asked.entry.rights.now)) }
+    ensures givens { IfOk result (λ found. IfSome found (λ givens. AreGivensAlone auto.old of.now.patterns.now (H.owned of.now.owner.now) asked.entry.left asked.entry.pattern asked.entry.rights.now of.now.variables.now auto.new givens.items)) }
     ensures extends { Extends auto.old auto.new }
     ensures keeps { Keeps store.old store.new }
     ensures known { Knows auto.new store.new known.new }
 {
-    given_alone(
-        alloc, auto, false, patterns, owner, variables, left, pattern, rights, known, store,
-    )
+    given_alone(alloc, auto, false, of, asked, known, store)
 }
 
 /// The same of first runs: for each variable a state that accepts exactly the documents that the
@@ -240,30 +230,24 @@ pub fn bindings<H: Holds>(
 pub fn first_bindings<H: Holds>(
     alloc: Global,
     auto: &mut Auto,
-    patterns: &PatternStates,
-    owner: &H,
-    variables: &[Label],
-    left: State,
-    pattern: State,
-    rights: &[State],
+    of: &PatternVariables<H>,
+    asked: PointParts<'_>,
     known: &mut LeastInhabitants,
     store: &mut Store,
 ) -> Result<Option<Vec<Given>>, NoMemory>
-    requires patterns { ServePoints auto.old patterns.now }
-    requires left { IsState auto.old left }
-    requires pattern { IsState patterns.now.auto pattern }
-    requires rights { AllByRecursion (IsState patterns.now.auto) rights.now }
-    requires alike { (x : ℕ) → x < length variables.now → LeavesOutAlike patterns.now (H.owned owner.now x) }
-    requires together { (x : ℕ) → x < length variables.now → KeepsTogether patterns.now.auto (H.owned owner.now x) pattern }
+    requires patterns { ServePoints auto.old of.now.patterns.now }
+    requires left { IsState auto.old asked.left }
+    requires pattern { IsState of.now.patterns.now.auto asked.pattern }
+    requires rights { AllByRecursion (IsState of.now.patterns.now.auto) asked.rights.now }
+    requires alike { (x : ℕ) → x < length of.now.variables.now → LeavesOutAlike of.now.patterns.now (H.owned of.now.owner.now x) }
+    requires together { (x : ℕ) → x < length of.now.variables.now → KeepsTogether of.now.patterns.now.auto (H.owned of.now.owner.now x) asked.pattern }
     requires known { Knows auto.old store.old known.old }
-    ensures none { result ≡ Ok None → (d : Document) → takes_alone auto.old patterns.now left pattern rights.now d ≡ false }
-    ensures shared { IfOk result (λ found. IfSome found (λ givens. IsSharedAlone auto.old patterns.now left pattern rights.now)) }
-    ensures givens { IfOk result (λ found. IfSome found (λ givens. AreFirstGivensAlone auto.old patterns.now (H.owned owner.now) left pattern rights.now variables.now auto.new givens.items)) }
+    ensures none { result ≡ Ok None → (d : Document) → takes_alone auto.old of.now.patterns.now asked.entry.left asked.entry.pattern asked.entry.rights.now d ≡ false }
+    ensures shared { IfOk result (λ found. IfSome found (λ givens. IsSharedAlone auto.old of.now.patterns.now asked.entry.left asked.entry.pattern asked.entry.rights.now)) }
+    ensures givens { IfOk result (λ found. IfSome found (λ givens. AreFirstGivensAlone auto.old of.now.patterns.now (H.owned of.now.owner.now) asked.entry.left asked.entry.pattern asked.entry.rights.now of.now.variables.now auto.new givens.items)) }
     ensures extends { Extends auto.old auto.new }
     ensures keeps { Keeps store.old store.new }
     ensures known { Knows auto.new store.new known.new }
 {
-    given_alone(
-        alloc, auto, true, patterns, owner, variables, left, pattern, rights, known, store,
-    )
+    given_alone(alloc, auto, true, of, asked, known, store)
 }

@@ -14,5 +14,6 @@ mod union;
 
 pub use alike::alike_states;
 pub use given::{bindings, first_bindings};
+pub use owner::PatternVariables;
 pub use projecting::project;
 pub use tells::TellsVariables;

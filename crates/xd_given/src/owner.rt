@@ -9,8 +9,27 @@ ghost use Rattle.xd_given.specs.Owning.{owns_first};
 
 use xd_auto::{Auto, State};
 use xd_bind::{Holds, MoveKind};
+use xd_doc::Label;
 use xd_least::LeastInhabitants;
 use xd_points::{PatternStates, PointTable};
+
+/// Variables of patterns, and what says which moves of the patterns belong to which of them, by
+/// their numbers.
+pub struct PatternVariables<'a, H: Holds> {
+    pub patterns: &'a PatternStates,
+    pub owner: &'a H,
+    pub variables: &'a [Label],
+}
+
+impl<H: Holds> Drop for PatternVariables<'_, H> {
+    fn drop(self) {
+        let PatternVariables {
+            patterns: _,
+            owner: _,
+            variables: _,
+        } = self;
+    }
+}
 
 /// Points and their moves, and what says which moves of their pattern belong to which variables.
 pub(crate) struct PointOwner<'a, H: Holds> {

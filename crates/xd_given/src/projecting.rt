@@ -11,13 +11,14 @@ ghost use Rattle.xd_given.specs.Buckets.{bucket_at};
 
 use crate::given::bindings;
 use crate::marks::Marks;
+use crate::owner::PatternVariables;
 use std::alloc::Global;
 use xd_auto::{Auto, add_universal};
 use xd_bind::{Binding, Given, Tracks, copied};
 use xd_doc::{NoMemory, Store};
 use xd_empty::inhabited_part;
 use xd_least::LeastInhabitants;
-use xd_points::PatternStates;
+use xd_points::{PatternStates, PointParts};
 
 /// For each of these states of an automaton, in their order, its part that accepts what the state
 /// does.
@@ -94,18 +95,17 @@ fn project_marked(
     let everything = add_universal(alloc, &mut made)?;
     let mut known = LeastInhabitants::new(alloc);
     let mut store = Store::new(alloc);
-    let found = bindings(
-        alloc,
-        &mut made,
-        pattern,
-        marks,
-        &tracks.variables,
-        everything,
-        tracks.start,
-        &[],
-        &mut known,
-        &mut store,
-    )?;
+    let of = PatternVariables {
+        patterns: pattern,
+        owner: marks,
+        variables: &tracks.variables,
+    };
+    let asked = PointParts {
+        left: everything,
+        pattern: tracks.start,
+        rights: &[],
+    };
+    let found = bindings(alloc, &mut made, &of, asked, &mut known, &mut store)?;
     match found {
         Some(givens) => bindings_of(alloc, tracks, &made, &givens),
         None => nothing_bound(alloc, tracks),

@@ -1,5 +1,5 @@
 -- How the points of an automaton are made, and what their states and moves stand for.
-use Rattle.std.specs.Prelude.{nat_eq, not, ◌≡◌, ℕ, ◌<◌, ◌≤◌, Bool, true, false, ◌&&◌, ◌||◌, List, [], ◌∷◌, map, take, length, Option, Some, slice_get, slice_index_or}
+use Rattle.std.specs.Prelude.{nat_eq, not, ◌≡◌, ℕ, ◌<◌, ◌≤◌, Bool, true, false, ◌&&◌, ◌||◌, List, [], ◌∷◌, map, take, length, Some, slice_get, slice_index_or}
 use Rattle.std.specs.List.{AllByRecursion, AllZip, list_any}
 use Rattle.xd_auto.specs.Keys.{found_at}
 use Rattle.xd_doc.specs.Document.{Document, empty}

@@ -2,6 +2,7 @@
 //! states refuse.
 #![tactic(auto)]
 
+mod automata;
 pub mod laws;
 mod moves;
 mod operations;
@@ -13,4 +14,5 @@ mod table;
 
 pub use operations::{minus, product};
 pub use patterns::PatternStates;
+pub use points::PointParts;
 pub use table::PointTable;

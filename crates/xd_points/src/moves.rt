@@ -15,17 +15,18 @@ ghost use Rattle.xd_boole.specs.Choices.{AllChoices, IsChoiceOf, choice_refuses}
 ghost use Rattle.xd_boole.specs.Disjoint.{AreNearMoves};
 ghost use Rattle.xd_boole.specs.Refusals.{LeadInside, label_refused};
 ghost use Rattle.xd_boole.specs.Points.{MoveBelow, TextBelow};
-ghost use Rattle.xd_points.specs.Meaning.{IsPointOf, ServePoints, point};
+ghost use Rattle.xd_points.specs.Meaning.{IsPointOf, point};
 ghost use Rattle.xd_points.specs.Narrowing.{leaves_nothing};
 ghost use Rattle.xd_boole.proofs.MoveBelowLemmas.{all_recursion};
 ghost use Rattle.xd_points.specs.declared.patterns.PatternStates.{PatternStates as PatternsView};
 ghost use Rattle.xd_points.specs.declared.points.Points.{Points as PointsView};
 ghost use Rattle.xd_points.specs.Points.{AddsLabels, AddsMoves, AddsTexts, ArePoints, ArePartsOf, AreRefusing, AreRestsOf, LabelLeads, LeadsAs, TextLeads, label_means, label_states, meaning, parts_accept, rests_accept, taken_before, text_means, text_states};
 
+use crate::automata::Automata;
 use crate::patterns::PatternStates;
 use crate::points::{Point, Points, leaves_nothing, stand_for};
 use std::alloc::Global;
-use xd_auto::{Auto, LabelMove, Move, State, TextMove};
+use xd_auto::{LabelMove, Move, State, TextMove};
 use xd_boole::{
     Group, LabelRefusal, MoveSide, SideChoice, any_marked, common_labels, is_marked,
     label_refusals, moves_before, near_moves, set_of, side_of, text_groups_before,
@@ -46,6 +47,14 @@ pub(crate) struct Rests {
     pub(crate) pattern: State,
 }
 
+/// What the moves of a point must refuse: what its rights accept, and what the moves of its
+/// pattern's state take that stand before a place.
+#[derive(Clone, Copy)]
+pub(crate) struct Refusing<'a> {
+    of: &'a Point,
+    place: usize,
+}
+
 /// Whether nothing is left of the contents, or of what follows.
 fn leads_nowhere(patterns: &PatternStates, parts: Parts, choice: &SideChoice) -> bool
     ensures { result ≡ (leaves_nothing patterns.now (point parts.left.content parts.pattern.content choice.now.contents.items) || leaves_nothing patterns.now (point parts.left.rest parts.pattern.rest choice.now.rests.items)) }
@@ -59,28 +68,25 @@ fn leads_nowhere(patterns: &PatternStates, parts: Parts, choice: &SideChoice) ->
 /// of a part.
 fn add_move(
     alloc: Global,
-    auto: &Auto,
-    patterns: &PatternStates,
+    automata: Automata<'_>,
     points: &mut Points,
     labels: &mut Vec<LabelMove>,
     parts: Parts,
     class: &Class,
     choice: &SideChoice,
 ) -> Result<(), NoMemory>
-    requires patterns { ServePoints auto.now patterns.now }
-    requires whole { ArePoints auto.now patterns.now points.old }
+    requires whole { ArePoints automata.lefts.now automata.patterns.now points.old }
     requires leads { AllByRecursion (LabelLeads parts.pattern points.old) labels.old.items }
-    requires parts { ArePartsOf auto.now patterns.now parts }
-    requires choice { IsChoiceOf patterns.now.taken.auto choice.now }
-    ensures { OnOk result (AddsLabels parts.pattern auto.now patterns.now points.old points.new labels.old.items labels.new.items (λ q. class_has class.now q.label && (parts_accept auto.now patterns.now q.content q.rest parts && choice_refuses patterns.now.taken.auto q.content q.rest choice.now))) }
+    requires parts { ArePartsOf automata.lefts.now automata.patterns.now parts }
+    requires choice { IsChoiceOf automata.patterns.now.taken.auto choice.now }
+    ensures { OnOk result (let a = automata.entry.lefts.now in let b = automata.entry.patterns.now in AddsLabels parts.pattern a b points.old points.new labels.old.items labels.new.items (λ q. class_has class.now q.label && (parts_accept a b q.content q.rest parts && choice_refuses b.taken.auto q.content q.rest choice.now))) }
 {
-    if leads_nowhere(patterns, parts, choice) {
+    if leads_nowhere(automata.patterns, parts, choice) {
         return Ok(());
     }
     let content = stand_for(
         alloc,
-        auto,
-        patterns,
+        automata,
         points,
         parts.left.content,
         parts.pattern.content,
@@ -88,8 +94,7 @@ fn add_move(
     )?;
     let rest = stand_for(
         alloc,
-        auto,
-        patterns,
+        automata,
         points,
         parts.left.rest,
         parts.pattern.rest,
@@ -106,31 +111,20 @@ fn add_move(
 /// The moves for the labels of a group: one for each choice.
 fn add_group(
     alloc: Global,
-    auto: &Auto,
-    patterns: &PatternStates,
+    automata: Automata<'_>,
     points: &mut Points,
     labels: &mut Vec<LabelMove>,
     parts: Parts,
     group: &LabelRefusal,
 ) -> Result<(), NoMemory>
-    requires patterns { ServePoints auto.now patterns.now }
-    requires whole { ArePoints auto.now patterns.now points.old }
+    requires whole { ArePoints automata.lefts.now automata.patterns.now points.old }
     requires leads { AllByRecursion (LabelLeads parts.pattern points.old) labels.old.items }
-    requires parts { ArePartsOf auto.now patterns.now parts }
-    requires group { AllChoices patterns.now.taken.auto group.now.choices.items }
-    ensures { OnOk result (AddsLabels parts.pattern auto.now patterns.now points.old points.new labels.old.items labels.new.items (λ q. parts_accept auto.now patterns.now q.content q.rest parts && label_refused patterns.now.taken.auto q group.now)) }
+    requires parts { ArePartsOf automata.lefts.now automata.patterns.now parts }
+    requires group { AllChoices automata.patterns.now.taken.auto group.now.choices.items }
+    ensures { OnOk result (let a = automata.entry.lefts.now in let b = automata.entry.patterns.now in AddsLabels parts.pattern a b points.old points.new labels.old.items labels.new.items (λ q. parts_accept a b q.content q.rest parts && label_refused b.taken.auto q group.now)) }
 {
     for choice in &group.choices {
-        add_move(
-            alloc,
-            auto,
-            patterns,
-            points,
-            labels,
-            parts,
-            &group.class,
-            choice,
-        )?;
+        add_move(alloc, automata, points, labels, parts, &group.class, choice)?;
     }
     Ok(())
 }
@@ -160,22 +154,21 @@ fn near_pattern(
 /// nothing of what a part accepts are left out.
 fn refusing_moves(
     alloc: Global,
-    auto: &Auto,
-    patterns: &PatternStates,
-    of: &Point,
+    automata: Automata<'_>,
+    refusing: Refusing<'_>,
     step: &LabelMove,
     parts: Parts,
-    place: usize,
 ) -> Result<Vec<LabelMove>, NoMemory>
-    requires patterns { ServePoints auto.now patterns.now }
-    requires of { IsPointOf auto.now patterns.now of.now }
-    requires parts { ArePartsOf auto.now patterns.now parts }
-    ensures { IfOk result (λ moves. AreRefusing auto.now patterns.now of.now step.now.class parts place moves.items) }
+    requires of { IsPointOf automata.lefts.now automata.patterns.now refusing.of.now }
+    requires parts { ArePartsOf automata.lefts.now automata.patterns.now parts }
+    ensures { IfOk result (λ moves. AreRefusing automata.entry.lefts.now automata.entry.patterns.now refusing.entry.of.now step.now.class parts refusing.entry.place moves.items) }
 {
+    let Automata { lefts, patterns } = automata;
+    let Refusing { of, place } = refusing;
     let taken = &patterns.taken.auto;
     let moves = moves_before(alloc, taken, step, &of.rights, of.pattern, place)?;
     let moves = near_pattern(alloc, patterns, parts.pattern, moves)?;
-    let moves = near_moves(alloc, auto, parts.left, taken, &moves)?;
+    let moves = near_moves(alloc, lefts, parts.left, taken, &moves)?;
     Ok(moves)
 }
 
@@ -183,20 +176,19 @@ fn refusing_moves(
 /// or nothing is left of what follows.
 fn add_text_group(
     alloc: Global,
-    auto: &Auto,
-    patterns: &PatternStates,
+    automata: Automata<'_>,
     points: &mut Points,
     texts: &mut Vec<TextMove>,
     rests: Rests,
     group: &Group<Words, State>,
 ) -> Result<(), NoMemory>
-    requires patterns { ServePoints auto.now patterns.now }
-    requires whole { ArePoints auto.now patterns.now points.old }
+    requires whole { ArePoints automata.lefts.now automata.patterns.now points.old }
     requires leads { AllByRecursion (TextLeads rests.pattern points.old) texts.old.items }
-    requires rests { AreRestsOf auto.now patterns.now rests }
-    requires group { AllPass (is_state patterns.now.taken.auto) group.now.sides.items }
-    ensures { OnOk result (AddsTexts rests.pattern auto.now patterns.now points.old points.new texts.old.items texts.new.items (λ q. rests_accept auto.now patterns.now q.rest rests && group_refuses class_has (λ s. accepts patterns.now.taken.auto q.rest s) q.characters group.now)) }
+    requires rests { AreRestsOf automata.lefts.now automata.patterns.now rests }
+    requires group { AllPass (is_state automata.patterns.now.taken.auto) group.now.sides.items }
+    ensures { OnOk result (let a = automata.entry.lefts.now in let b = automata.entry.patterns.now in AddsTexts rests.pattern a b points.old points.new texts.old.items texts.new.items (λ q. rests_accept a b q.rest rests && group_refuses class_has (λ s. accepts b.taken.auto q.rest s) q.characters group.now)) }
 {
+    let patterns = automata.patterns;
     if any_marked(&patterns.taken.universal, &group.sides) {
         return Ok(());
     }
@@ -204,15 +196,7 @@ fn add_text_group(
     if leaves_nothing(patterns, rests.left, rests.pattern, &rights) {
         return Ok(());
     }
-    let rest = stand_for(
-        alloc,
-        auto,
-        patterns,
-        points,
-        rests.left,
-        rests.pattern,
-        &rights,
-    )?;
+    let rest = stand_for(alloc, automata, points, rests.left, rests.pattern, &rights)?;
     texts.push(TextMove {
         words: group.class.share()?,
         rest,
@@ -252,22 +236,19 @@ pub(crate) trait PatternMove: Move + Drop {
     /// moves of the pattern's state.
     fn add_meet(
         alloc: Global,
-        auto: &Auto,
-        patterns: &PatternStates,
+        automata: Automata<'_>,
         points: &mut Points,
         moves: &mut Vec<Self>,
-        of: &Point,
+        refusing: Refusing<'_>,
         one: &Self,
         two: &Self,
-        place: usize,
     ) -> Result<(), NoMemory>
-        requires patterns { ServePoints auto.now patterns.now }
-        requires whole { ArePoints auto.now patterns.now points.old }
+        requires whole { ArePoints automata.lefts.now automata.patterns.now points.old }
         requires leads { AllByRecursion (LeadsAs states two.now points.old) moves.old.items }
-        requires of { IsPointOf auto.now patterns.now of.now }
-        requires one { below (length auto.now) one.now }
-        requires two { below (length patterns.now.auto) two.now }
-        ensures { OnOk result (AddsMoves (LeadsAs states two.now) (means auto.now patterns.now) auto.now patterns.now points.old points.new moves.old.items moves.new.items (λ q. (takes auto.now q one.now && takes patterns.now.auto q two.now) && not (taken_before (takes patterns.now.auto q) (Self.moves_in (moves_at patterns.now.auto of.now.pattern)) patterns.now of.now place (document q)))) };
+        requires of { IsPointOf automata.lefts.now automata.patterns.now refusing.of.now }
+        requires one { below (length automata.lefts.now) one.now }
+        requires two { below (length automata.patterns.now.auto) two.now }
+        ensures { OnOk result (let a = automata.entry.lefts.now in let b = automata.entry.patterns.now in AddsMoves (LeadsAs states two.now) (means a b) a b points.old points.new moves.old.items moves.new.items (λ q. (takes a q one.now && takes b.auto q two.now) && not (taken_before (takes b.auto q) (Self.moves_in (moves_at b.auto refusing.entry.of.now.pattern)) b refusing.entry.of.now refusing.entry.place (document q)))) };
 
     /// A state accepts a document by the moves that take it.
     ghost accepted: { (a : Automaton) (s : State) (q : First) → accepts a (document q) s ≡ list_any (takes a q) (Self.moves_in (moves_at a s)) };
@@ -314,14 +295,12 @@ impl PatternMove for LabelMove {
 
     fn add_meet(
         alloc: Global,
-        auto: &Auto,
-        patterns: &PatternStates,
+        automata: Automata<'_>,
         points: &mut Points,
         labels: &mut Vec<LabelMove>,
-        of: &Point,
+        refusing: Refusing<'_>,
         one: &LabelMove,
         two: &LabelMove,
-        place: usize,
     ) -> Result<(), NoMemory> {
         let Some(class) = common_labels(&one.class, &two.class)? else {
             return Ok(());
@@ -335,10 +314,10 @@ impl PatternMove for LabelMove {
             left: side_of(one),
             pattern: side_of(two),
         };
-        let moves = refusing_moves(alloc, auto, patterns, of, &step, parts, place)?;
-        let groups = label_refusals(alloc, &patterns.taken, &step.class, &moves)?;
+        let moves = refusing_moves(alloc, automata, refusing, &step, parts)?;
+        let groups = label_refusals(alloc, &automata.patterns.taken, &step.class, &moves)?;
         for group in &groups {
-            add_group(alloc, auto, patterns, points, labels, parts, group)?;
+            add_group(alloc, automata, points, labels, parts, group)?;
         }
         Ok(())
     }
@@ -373,14 +352,12 @@ impl PatternMove for TextMove {
 
     fn add_meet(
         alloc: Global,
-        auto: &Auto,
-        patterns: &PatternStates,
+        automata: Automata<'_>,
         points: &mut Points,
         texts: &mut Vec<TextMove>,
-        of: &Point,
+        refusing: Refusing<'_>,
         one: &TextMove,
         two: &TextMove,
-        place: usize,
     ) -> Result<(), NoMemory> {
         let Some(words) = one.words.meet(&two.words)? else {
             return Ok(());
@@ -393,16 +370,11 @@ impl PatternMove for TextMove {
             left: one.rest,
             pattern: two.rest,
         };
-        let groups = text_groups_before(
-            alloc,
-            &patterns.taken.auto,
-            &step,
-            &of.rights,
-            of.pattern,
-            place,
-        )?;
+        let taken = &automata.patterns.taken.auto;
+        let Refusing { of, place } = refusing;
+        let groups = text_groups_before(alloc, taken, &step, &of.rights, of.pattern, place)?;
         for group in &groups {
-            add_text_group(alloc, auto, patterns, points, texts, rests, group)?;
+            add_text_group(alloc, automata, points, texts, rests, group)?;
         }
         Ok(())
     }
@@ -411,29 +383,27 @@ impl PatternMove for TextMove {
 /// The moves that stand for the move of this number of the pattern's state.
 pub(crate) fn steps<M: PatternMove>(
     alloc: Global,
-    auto: &Auto,
-    patterns: &PatternStates,
+    automata: Automata<'_>,
     points: &mut Points,
     of: &Point,
     number: usize,
     place: usize,
 ) -> Result<Vec<M>, NoMemory>
-    requires patterns { ServePoints auto.now patterns.now }
-    requires whole { ArePoints auto.now patterns.now points.old }
-    requires of { IsPointOf auto.now patterns.now of.now }
-    requires number { number < length (M.moves_in (moves_at patterns.now.auto of.now.pattern)) }
-    ensures { IfOk result (λ made. (m : M) → m ≡ get_or (M.moves_in (moves_at patterns.now.auto of.now.pattern)) number m → AddsMoves (LeadsAs M.states m) (M.means auto.now patterns.now) auto.now patterns.now points.old points.new [] made.items (λ q. accepts auto.now (M.document q) of.now.left && (M.takes patterns.now.auto q m && not (taken_before (M.takes patterns.now.auto q) (M.moves_in (moves_at patterns.now.auto of.now.pattern)) patterns.now of.now place (M.document q))))) }
+    requires whole { ArePoints automata.lefts.now automata.patterns.now points.old }
+    requires of { IsPointOf automata.lefts.now automata.patterns.now of.now }
+    requires number { number < length (M.moves_in (moves_at automata.patterns.now.auto of.now.pattern)) }
+    ensures { IfOk result (λ made. let a = automata.entry.lefts.now in let b = automata.entry.patterns.now in (m : M) → m ≡ get_or (M.moves_in (moves_at b.auto of.now.pattern)) number m → AddsMoves (LeadsAs M.states m) (M.means a b) a b points.old points.new [] made.items (λ q. accepts a (M.document q) of.now.left && (M.takes b.auto q m && not (taken_before (M.takes b.auto q) (M.moves_in (moves_at b.auto of.now.pattern)) b of.now place (M.document q))))) }
 {
+    let Automata { lefts, patterns } = automata;
     let twos = M::moves(&patterns.auto, of.pattern);
     let two = &twos[number];
-    let numbers = two.matching(alloc, auto, of.left)?;
-    let ones = M::moves(auto, of.left);
+    let numbers = two.matching(alloc, lefts, of.left)?;
+    let ones = M::moves(lefts, of.left);
+    let refusing = Refusing { of, place };
     let mut made = Vec::new(alloc);
     for number in &numbers {
         let one = &ones[*number];
-        M::add_meet(
-            alloc, auto, patterns, points, &mut made, of, one, two, place,
-        )?;
+        M::add_meet(alloc, automata, points, &mut made, refusing, one, two)?;
     }
     Ok(made)
 }

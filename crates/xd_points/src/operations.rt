@@ -10,6 +10,7 @@ ghost use Rattle.xd_points.specs.Placing.{accepts_at};
 ghost use Rattle.xd_points.specs.Tables.{takes_alone};
 
 use crate::patterns::PatternStates;
+use crate::points::PointParts;
 use crate::table::PointTable;
 use std::alloc::Global;
 use xd_auto::{Auto, State, trim};
@@ -57,7 +58,12 @@ fn accepting(
     ensures exact { IfOk result (λ made. (d : Document) → accepts auto.new d made ≡ takes_alone auto.old patterns.now left pattern rights.now d) }
 {
     let mut table = PointTable::new(alloc);
-    let found = table.accept(alloc, auto, patterns, left, pattern, rights)?;
+    let asked = PointParts {
+        left,
+        pattern,
+        rights,
+    };
+    let found = table.accept(alloc, auto, patterns, asked)?;
     found_or_nothing(auto, found)
 }
 

@@ -6,11 +6,12 @@ ghost use Rattle.std.specs.Cmp.Lexicographic.{pointwise};
 ghost use Rattle.xd_auto.specs.Automaton.{Automaton, IsState};
 ghost use Rattle.xd_points.specs.declared.patterns.PatternStates.{PatternStates as PatternsView};
 ghost use Rattle.xd_boole.specs.Meaning.{has_state};
-ghost use Rattle.xd_points.specs.Meaning.{IsPointOf, ServePoints, is_old_point, point};
+ghost use Rattle.xd_points.specs.Meaning.{IsPointOf, is_old_point, point};
 ghost use Rattle.xd_points.specs.Narrowing.{leaves_nothing, narrowed_left};
 ghost use Rattle.xd_auto.specs.Keys.{found_at};
 ghost use Rattle.xd_points.specs.Points.{ArePoints, Grows, IsStateFor, StandsFor, point_at, point_key, point_last};
 
+use crate::automata::Automata;
 use crate::patterns::PatternStates;
 use indexmap::IndexMap;
 use std::alloc::Global;
@@ -34,6 +35,17 @@ impl Model for Point {
     ghost Value = { PointView };
 
     ghost view = { λ p. record { left = p.left; pattern = p.pattern; rights = p.rights.items } };
+}
+
+/// A point that is asked for, by its parts.
+#[derive(Clone, Copy)]
+pub struct PointParts<'a> {
+    /// A state of the automaton of the lefts.
+    pub left: State,
+    /// A state of the patterns.
+    pub pattern: State,
+    /// States of the patterns that must refuse.
+    pub rights: &'a [State],
 }
 
 /// A new automaton, with the point of each of its states, and the numbers of the points.
@@ -127,45 +139,37 @@ fn narrowed_left(patterns: &PatternStates, left: State, pattern: State, rights: 
 
 /// Whether the state of a point accepts the empty document. One that means what an old state
 /// accepts is taken to.
-fn is_last(
-    auto: &Auto,
-    patterns: &PatternStates,
-    left: State,
-    pattern: State,
-    rights: &[State],
-) -> bool
-    requires patterns { ServePoints auto.now patterns.now }
-    requires states { IsPointOf auto.now patterns.now (point left pattern rights.now) }
-    ensures { result ≡ point_last auto.now patterns.now (point left pattern rights.now) }
+fn is_last(automata: Automata<'_>, left: State, pattern: State, rights: &[State]) -> bool
+    requires states { IsPointOf automata.lefts.now automata.patterns.now (point left pattern rights.now) }
+    ensures { result ≡ point_last automata.entry.lefts.now automata.entry.patterns.now (point left pattern rights.now) }
 {
+    let Automata { lefts, patterns } = automata;
     if is_old(patterns, left, pattern, rights) {
         return true;
     }
-    auto.is_last(left)
+    lefts.is_last(left)
         && (patterns.auto.is_last(pattern) && !any_last(&patterns.taken.auto, rights))
 }
 
 /// The state of a new point, which has no moves yet.
 fn add_point(
     alloc: Global,
-    auto: &Auto,
-    patterns: &PatternStates,
+    automata: Automata<'_>,
     points: &mut Points,
     key: StateKey,
     left: State,
     pattern: State,
     rights: &[State],
 ) -> Result<State, NoMemory>
-    requires patterns { ServePoints auto.now patterns.now }
-    requires whole { ArePoints auto.now patterns.now points.old }
-    requires states { IsPointOf auto.now patterns.now (point left pattern rights.now) }
+    requires whole { ArePoints automata.lefts.now automata.patterns.now points.old }
+    requires states { IsPointOf automata.lefts.now automata.patterns.now (point left pattern rights.now) }
     requires key { key ≡ point_key (point left pattern rights.now) }
-    ensures whole { OnOk result (ArePoints auto.now patterns.now points.new) }
+    ensures whole { OnOk result (ArePoints automata.entry.lefts.now automata.entry.patterns.now points.new) }
     ensures grows { OnOk result (Grows points.old points.new) }
     ensures state { IfOk result (IsStateFor points.new left pattern rights.now) }
 {
     let number = points.points.len();
-    let last = is_last(auto, patterns, left, pattern, rights);
+    let last = is_last(automata, left, pattern, rights);
     let rights = rights.to_vec(alloc)?;
     let state = points.made.add_state(last)?;
     points.points.push(Point {
@@ -180,46 +184,42 @@ fn add_point(
 /// The state of a point, which is made where it isn't there.
 fn find_or_add(
     alloc: Global,
-    auto: &Auto,
-    patterns: &PatternStates,
+    automata: Automata<'_>,
     points: &mut Points,
     left: State,
     pattern: State,
     rights: &[State],
 ) -> Result<State, NoMemory>
-    requires patterns { ServePoints auto.now patterns.now }
-    requires whole { ArePoints auto.now patterns.now points.old }
-    requires states { IsPointOf auto.now patterns.now (point left pattern rights.now) }
-    ensures whole { OnOk result (ArePoints auto.now patterns.now points.new) }
+    requires whole { ArePoints automata.lefts.now automata.patterns.now points.old }
+    requires states { IsPointOf automata.lefts.now automata.patterns.now (point left pattern rights.now) }
+    ensures whole { OnOk result (ArePoints automata.entry.lefts.now automata.entry.patterns.now points.new) }
     ensures grows { OnOk result (Grows points.old points.new) }
     ensures state { IfOk result (IsStateFor points.new left pattern rights.now) }
 {
     let key = StateKey::of_pair(alloc, left, pattern, rights)?;
     match points.found.get(&key) {
         Some(number) => Ok(points.made.state(*number)),
-        None => add_point(alloc, auto, patterns, points, key, left, pattern, rights),
+        None => add_point(alloc, automata, points, key, left, pattern, rights),
     }
 }
 
 /// The state of a point that means what this one does, and has its state of the pattern.
 pub(crate) fn stand_for(
     alloc: Global,
-    auto: &Auto,
-    patterns: &PatternStates,
+    automata: Automata<'_>,
     points: &mut Points,
     left: State,
     pattern: State,
     rights: &[State],
 ) -> Result<State, NoMemory>
-    requires patterns { ServePoints auto.now patterns.now }
-    requires whole { ArePoints auto.now patterns.now points.old }
-    requires states { IsPointOf auto.now patterns.now (point left pattern rights.now) }
-    ensures whole { OnOk result (ArePoints auto.now patterns.now points.new) }
+    requires whole { ArePoints automata.lefts.now automata.patterns.now points.old }
+    requires states { IsPointOf automata.lefts.now automata.patterns.now (point left pattern rights.now) }
+    ensures whole { OnOk result (ArePoints automata.entry.lefts.now automata.entry.patterns.now points.new) }
     ensures grows { OnOk result (Grows points.old points.new) }
-    ensures state { IfOk result (StandsFor auto.now patterns.now points.new (point left pattern rights.now)) }
+    ensures state { IfOk result (StandsFor automata.entry.lefts.now automata.entry.patterns.now points.new (point left pattern rights.now)) }
 {
-    let left = narrowed_left(patterns, left, pattern, rights);
-    let state = find_or_add(alloc, auto, patterns, points, left, pattern, rights)?;
+    let left = narrowed_left(automata.patterns, left, pattern, rights);
+    let state = find_or_add(alloc, automata, points, left, pattern, rights)?;
     Ok(state)
 }
 

@@ -2,16 +2,15 @@
 
 ghost use Rattle.std.specs.Prelude.{◌≡◌, ◌<◌, ◌+◌, ◌++◌, ◌∷◌, [], length, map, IfOk, OnOk};
 ghost use Rattle.xd_auto.specs.Automaton.{moves_at};
-ghost use Rattle.xd_points.specs.Meaning.{IsPointOf, ServePoints};
+ghost use Rattle.xd_points.specs.Meaning.{IsPointOf};
 ghost use Rattle.xd_points.specs.FirstRuns.{place_before};
 ghost use Rattle.xd_points.specs.Points.{AreExpanded, ArePoints, Grows, KeepMoves, KeepsPoints, RowView, StandForMoves, no_row, takes_for};
 
+use crate::automata::Automata;
 use crate::moves::{PatternMove, steps};
-use crate::patterns::PatternStates;
 use crate::points::{Point, Points, copy_point, is_old};
 use std::alloc::Global;
 use std::marker::Model;
-use xd_auto::Auto;
 use xd_doc::NoMemory;
 
 /// For each move of a state, by its kind and number, the number of the pattern's move that it
@@ -59,24 +58,22 @@ fn place_of(first: bool, number: usize) -> usize
 /// fail.
 fn moves_of<M: PatternMove>(
     alloc: Global,
-    auto: &Auto,
-    patterns: &PatternStates,
+    automata: Automata<'_>,
     points: &mut Points,
     of: &Point,
     first: bool,
 ) -> Result<(Vec<M>, Vec<usize>), NoMemory>
-    requires patterns { ServePoints auto.now patterns.now }
-    requires whole { ArePoints auto.now patterns.now points.old }
-    requires of { IsPointOf auto.now patterns.now of.now }
-    ensures whole { OnOk result (ArePoints auto.now patterns.now points.new) }
+    requires whole { ArePoints automata.lefts.now automata.patterns.now points.old }
+    requires of { IsPointOf automata.lefts.now automata.patterns.now of.now }
+    ensures whole { OnOk result (ArePoints automata.entry.lefts.now automata.entry.patterns.now points.new) }
     ensures grows { OnOk result (Grows points.old points.new) }
-    ensures stand { IfOk result (λ made. StandForMoves M.states (M.means auto.now patterns.now) (M.moves_in (moves_at patterns.now.auto of.now.pattern)) points.new made.0.items made.1.items (λ n q. takes_for (M.takes patterns.now.auto q) (M.moves_in (moves_at patterns.now.auto of.now.pattern)) first auto.now patterns.now of.now n (M.document q))) }
+    ensures stand { IfOk result (λ made. let a = automata.entry.lefts.now in let b = automata.entry.patterns.now in StandForMoves M.states (M.means a b) (M.moves_in (moves_at b.auto of.now.pattern)) points.new made.0.items made.1.items (λ n q. takes_for (M.takes b.auto q) (M.moves_in (moves_at b.auto of.now.pattern)) first a b of.now n (M.document q))) }
 {
     let mut moves = Vec::new(alloc);
     let mut numbers = Vec::new(alloc);
-    for number in 0..M::moves(&patterns.auto, of.pattern).len() {
+    for number in 0..M::moves(&automata.patterns.auto, of.pattern).len() {
         let place = place_of(first, number);
-        let made = steps(alloc, auto, patterns, points, of, number, place)?;
+        let made = steps(alloc, automata, points, of, number, place)?;
         append(&mut moves, &mut numbers, made, number)?;
     }
     Ok((moves, numbers))
@@ -97,16 +94,14 @@ fn add_bare(alloc: Global, rows: &mut Vec<Row>) -> Result<(), NoMemory>
 /// none where the point means what an old state accepts.
 pub(crate) fn expand(
     alloc: Global,
-    auto: &Auto,
-    patterns: &PatternStates,
+    automata: Automata<'_>,
     points: &mut Points,
     rows: &mut Vec<Row>,
     first: bool,
 ) -> Result<(), NoMemory>
-    requires patterns { ServePoints auto.now patterns.now }
-    requires expanded { AreExpanded first auto.now patterns.now points.old rows.old.items }
+    requires expanded { AreExpanded first automata.lefts.now automata.patterns.now points.old rows.old.items }
     requires more { length rows.old.items < length points.old.points.items }
-    ensures expanded { OnOk result (AreExpanded first auto.now patterns.now points.new rows.new.items) }
+    ensures expanded { OnOk result (AreExpanded first automata.entry.lefts.now automata.entry.patterns.now points.new rows.new.items) }
     ensures grows { OnOk result (KeepsPoints points.old points.new) }
     ensures moves { OnOk result (KeepMoves (length rows.old.items) points.old points.new) }
     ensures count { OnOk result (length rows.new.items ≡ length rows.old.items + 1) }
@@ -114,12 +109,12 @@ pub(crate) fn expand(
     let _states = points.made.len();
     let number = rows.len();
     let of = copy_point(alloc, points, number)?;
-    if is_old(patterns, of.left, of.pattern, &of.rights) {
+    if is_old(automata.patterns, of.left, of.pattern, &of.rights) {
         add_bare(alloc, rows)?;
         return Ok(());
     }
-    let (labels, label_numbers) = moves_of(alloc, auto, patterns, points, &of, first)?;
-    let (texts, text_numbers) = moves_of(alloc, auto, patterns, points, &of, first)?;
+    let (labels, label_numbers) = moves_of(alloc, automata, points, &of, first)?;
+    let (texts, text_numbers) = moves_of(alloc, automata, points, &of, first)?;
     let state = points.made.state(number);
     points.made.set_moves(state, labels, texts);
     rows.push(Row {

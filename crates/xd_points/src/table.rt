@@ -8,9 +8,10 @@ ghost use Rattle.xd_points.specs.Meaning.{ServePoints};
 ghost use Rattle.xd_points.specs.Points.{AreExpanded, KeepMoves, KeepsPoints};
 ghost use Rattle.xd_points.specs.Tables.{number_or};
 
+use crate::automata::Automata;
 use crate::patterns::PatternStates;
 use crate::placing::{Place, place_points};
-use crate::points::{Points, is_old, stand_for};
+use crate::points::{PointParts, Points, is_old, stand_for};
 use crate::steps::{Row, expand};
 use std::alloc::Global;
 use xd_auto::{Auto, State};
@@ -37,22 +38,20 @@ pub struct PointTable {
 /// wait in the order of their numbers.
 fn expand_all(
     alloc: Global,
-    auto: &Auto,
-    patterns: &PatternStates,
+    automata: Automata<'_>,
     points: &mut Points,
     rows: &mut Vec<Row>,
     first: bool,
 ) -> Result<(), NoMemory>
-    requires patterns { ServePoints auto.now patterns.now }
-    requires expanded { AreExpanded first auto.now patterns.now points.old rows.old.items }
-    ensures expanded { OnOk result (AreExpanded first auto.now patterns.now points.new rows.new.items) }
+    requires expanded { AreExpanded first automata.lefts.now automata.patterns.now points.old rows.old.items }
+    ensures expanded { OnOk result (AreExpanded first automata.entry.lefts.now automata.entry.patterns.now points.new rows.new.items) }
     ensures every { OnOk result (length rows.new.items ≡ length points.new.points.items) }
     ensures keeps { OnOk result (KeepsPoints points.old points.new) }
     ensures moves { OnOk result (KeepMoves (length rows.old.items) points.old points.new) }
 {
     let mut number = rows.len();
     while number < points.points.len() {
-        expand(alloc, auto, patterns, points, rows, first)?;
+        expand(alloc, automata, points, rows, first)?;
         number += 1;
     }
     Ok(())
@@ -118,22 +117,20 @@ impl PointTable {
         alloc: Global,
         auto: &mut Auto,
         patterns: &PatternStates,
-        left: State,
-        pattern: State,
-        rights: &[State],
+        asked: PointParts<'_>,
     ) -> Result<Option<State>, NoMemory>
         requires patterns { ServePoints auto.old patterns.now }
         requires table { IsTableOf auto.old patterns.now self.old }
-        requires left { IsState auto.old left }
-        requires pattern { IsState patterns.now.auto pattern }
-        requires rights { AllByRecursion (IsState patterns.now.auto) rights.now }
+        requires left { IsState auto.old asked.left }
+        requires pattern { IsState patterns.now.auto asked.pattern }
+        requires rights { AllByRecursion (IsState patterns.now.auto) asked.rights.now }
         ensures table { OnOk result (IsTableOf auto.new patterns.now self.new) }
         ensures belongs { IfOk result (λ found. IfSome found (IsState auto.new)) }
-        ensures exact { IfOk result (λ found. (d : Document) → accepts_at auto.new d found ≡ takes_alone auto.old patterns.now left pattern rights.now d) }
+        ensures exact { IfOk result (λ found. (d : Document) → accepts_at auto.new d found ≡ takes_alone auto.old patterns.now asked.entry.left asked.entry.pattern asked.entry.rights.now d) }
         ensures runs { of_first_runs self.new ≡ of_first_runs self.old }
         ensures extends { Extends auto.old auto.new }
     {
-        let point = self.find(alloc, auto, patterns, left, pattern, rights)?;
+        let point = self.find(alloc, auto, patterns, asked)?;
         Ok(self.place(point))
     }
 
@@ -145,37 +142,35 @@ impl PointTable {
         alloc: Global,
         auto: &mut Auto,
         patterns: &PatternStates,
-        left: State,
-        pattern: State,
-        rights: &[State],
+        asked: PointParts<'_>,
     ) -> Result<State, NoMemory>
         requires patterns { ServePoints auto.old patterns.now }
         requires table { IsTableOf auto.old patterns.now self.old }
-        requires left { IsState auto.old left }
-        requires pattern { IsState patterns.now.auto pattern }
-        requires rights { AllByRecursion (IsState patterns.now.auto) rights.now }
+        requires left { IsState auto.old asked.left }
+        requires pattern { IsState patterns.now.auto asked.pattern }
+        requires rights { AllByRecursion (IsState patterns.now.auto) asked.rights.now }
         ensures table { OnOk result (IsTableOf auto.new patterns.now self.new) }
         ensures belongs { IfOk result (IsState (points_of self.new)) }
-        ensures pattern { IfOk result (λ point. pattern_of self.new point ≡ pattern) }
-        ensures means { IfOk result (λ point. (d : Document) → point_means auto.new patterns.now self.new point d ≡ takes_alone auto.old patterns.now left pattern rights.now d) }
+        ensures pattern { IfOk result (λ point. pattern_of self.new point ≡ asked.entry.pattern) }
+        ensures means { IfOk result (λ point. (d : Document) → point_means auto.new patterns.now self.new point d ≡ takes_alone auto.old patterns.now asked.entry.left asked.entry.pattern asked.entry.rights.now d) }
         ensures runs { of_first_runs self.new ≡ of_first_runs self.old }
         ensures extends { Extends auto.old auto.new }
     {
         let _states = auto.len();
         self.known.stays_known();
-        let start = stand_for(
-            alloc,
-            auto,
+        let automata = Automata {
+            lefts: auto,
             patterns,
-            &mut self.points,
+        };
+        let PointParts {
             left,
             pattern,
             rights,
-        )?;
+        } = asked;
+        let start = stand_for(alloc, automata, &mut self.points, left, pattern, rights)?;
         expand_all(
             alloc,
-            auto,
-            patterns,
+            automata,
             &mut self.points,
             &mut self.rows,
             self.first,

@@ -12,7 +12,7 @@ use Rattle.xd_points.proofs.moves.add_group.Goals as goal
 
 pub loop-choice-init : goal.loop-choice-init
 loop-choice-init c =
-    let a = c.args.auto.now in let b = c.args.patterns.now in
+    let a = c.args.automata.lefts.now in let b = c.args.automata.patterns.now in
     record {
       adds = adds_none c.requires.whole c.requires.leads
           (λ q. and_and_false (class_has c.args.group.now.class q.label) (parts_accept a b q.content q.rest c.args.parts));
@@ -21,7 +21,7 @@ loop-choice-init c =
 
 pub loop-choice-preserved : goal.loop-choice-preserved
 loop-choice-preserved c =
-    let a = c.args.auto.now in let b = c.args.patterns.now in
+    let a = c.args.automata.lefts.now in let b = c.args.automata.patterns.now in
     let items = c.deref-choice-items.result.now in
     let i = c.loop-choice.choice-index in
     let x = c.choice-item.result in
@@ -34,8 +34,8 @@ loop-choice-preserved c =
 
 pub returns : goal.returns
 returns c =
-    let a = c.args.auto.now in
-    let b = c.args.patterns.now in
+    let a = c.args.automata.lefts.now in
+    let b = c.args.automata.patterns.now in
     let group = c.args.group.now in
     let items = c.deref-choice-items.result.now in
     adds_like c.loop-choice.invariant.adds
@@ -45,12 +45,11 @@ returns c =
 
 pub add_move-requires : goal.add_move-requires
 add_move-requires c =
-    let b = c.args.patterns.now in
+    let b = c.args.automata.patterns.now in
     let next = all_step (IsChoiceOf b.taken.auto) c.deref-choice-items.result.now c.loop-choice.choice-index c.choice-item.result c.loop-choice-test.true c.choice-item.is c.loop-choice.invariant.left in
     record {
       whole = c.loop-choice.invariant.adds.whole;
       leads = c.loop-choice.invariant.adds.leads;
-      patterns = c.requires.patterns;
       parts = c.requires.parts;
       choice = next.0;
     }

@@ -7,7 +7,7 @@ use Rattle.xd_points.proofs.moves.add_group.Given as goal
 
 abbrev pub invariant-loop-choice : goal.invariant-loop-choice
 invariant-loop-choice l = record {
-  adds : AddsLabels l.fn.parts.pattern l.auto' l.patterns l.initial.points l.points l.initial.labels.items l.labels.items
-      (λ q. class_has l.group.class q.label && (parts_accept l.auto' l.patterns q.content q.rest l.fn.parts && any_choice l.patterns.taken.auto q.content q.rest (take l.choice-index l.choice-items)));
-  left : AllByRecursion (IsChoiceOf l.patterns.taken.auto) (drop l.choice-index l.choice-items);
+  adds : AddsLabels l.fn.parts.pattern l.automata.lefts.now l.automata.patterns.now l.initial.points l.points l.initial.labels.items l.labels.items
+      (λ q. class_has l.group.class q.label && (parts_accept l.automata.lefts.now l.automata.patterns.now q.content q.rest l.fn.parts && any_choice l.automata.patterns.now.taken.auto q.content q.rest (take l.choice-index l.choice-items)));
+  left : AllByRecursion (IsChoiceOf l.automata.patterns.now.taken.auto) (drop l.choice-index l.choice-items);
 }

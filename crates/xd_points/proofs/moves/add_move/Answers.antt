@@ -21,15 +21,15 @@ returns c =
     let parts = c.args.parts in
     let items : c.push.new.self.items ≡ c.args.labels.now.items ++ record { class = c.args.class.now; content = content; rest = rest } ∷ [] =
     c.in_ok-push.ensures.items ∙ ap (λ (k : LabelClass). let m : LabelMove = record { class = k; content = content; rest = rest } in c.args.labels.now.items ++ m ∷ []) c.in_ok-share.ensures.same in
-    move_added c.args.auto.now c.args.patterns.now c.args.points.now c.stand_for.new.points c.stand_for-2.new.points c.args.labels.now.items c.push.new.self.items parts c.args.choice.now c.args.class.now content rest
+    move_added c.args.automata.lefts.now c.args.automata.patterns.now c.args.points.now c.stand_for.new.points c.stand_for-2.new.points c.args.labels.now.items c.push.new.self.items parts c.args.choice.now c.args.class.now content rest
     items c.requires.leads c.in_ok-content.ensures.grows c.in_ok-rest.ensures.grows c.in_ok-rest.ensures.whole
-    (subst (λ (rs : List State). StandsFor c.args.auto.now c.args.patterns.now c.stand_for.new.points (point parts.left.content parts.pattern.content rs) content) c.deref.ensures.value c.in_ok-content.ensures.state)
-    (subst (λ (rs : List State). StandsFor c.args.auto.now c.args.patterns.now c.stand_for-2.new.points (point parts.left.rest parts.pattern.rest rs) rest) c.deref-2.ensures.value c.in_ok-rest.ensures.state)
+    (subst (λ (rs : List State). StandsFor c.args.automata.lefts.now c.args.automata.patterns.now c.stand_for.new.points (point parts.left.content parts.pattern.content rs) content) c.deref.ensures.value c.in_ok-content.ensures.state)
+    (subst (λ (rs : List State). StandsFor c.args.automata.lefts.now c.args.automata.patterns.now c.stand_for-2.new.points (point parts.left.rest parts.pattern.rest rs) rest) c.deref-2.ensures.value c.in_ok-rest.ensures.state)
 
 pub stand_for-requires-clause-states : goal.stand_for-requires-clause-states
 stand_for-requires-clause-states c =
-    let a = c.args.auto.now in
-    let b = c.args.patterns.now in
+    let a = c.args.automata.lefts.now in
+    let b = c.args.automata.patterns.now in
     let parts = c.args.parts in
     record {
       left = state_is a parts.left.content (and_left (is_state a parts.left.content) (is_state a parts.left.rest) c.requires.parts.left);
@@ -39,8 +39,8 @@ stand_for-requires-clause-states c =
 
 pub stand_for-requires-2-clause-states : goal.stand_for-requires-2-clause-states
 stand_for-requires-2-clause-states c =
-    let a = c.args.auto.now in
-    let b = c.args.patterns.now in
+    let a = c.args.automata.lefts.now in
+    let b = c.args.automata.patterns.now in
     let parts = c.args.parts in
     record {
       left = state_is a parts.left.rest (and_right (is_state a parts.left.content) (is_state a parts.left.rest) c.requires.parts.left);
@@ -50,8 +50,8 @@ stand_for-requires-2-clause-states c =
 
 pub returns-then-leads_nowhere : goal.returns-then-leads_nowhere
 returns-then-leads_nowhere c =
-    let a = c.args.auto.now in
-    let b = c.args.patterns.now in
+    let a = c.args.automata.lefts.now in
+    let b = c.args.automata.patterns.now in
     let parts = c.args.parts in
     let choice = c.args.choice.now in
     let inside = point parts.left.content parts.pattern.content choice.contents.items in
@@ -60,5 +60,5 @@ returns-then-leads_nowhere c =
     (λ q.
     part_none (class_has c.args.class.now q.label) (accepts a q.content parts.left.content) (accepts a q.rest parts.left.rest) (accepts b.auto q.content parts.pattern.content) (accepts b.auto q.rest parts.pattern.rest)
     (any_accepts b.taken.auto choice.contents.items q.content) (any_accepts b.taken.auto choice.rests.items q.rest) (leaves_nothing b inside) (leaves_nothing b behind)
-    (nothing_meant a b c.requires.patterns inside q.content) (nothing_meant a b c.requires.patterns behind q.rest)
+    (nothing_meant a b c.args.automata.serve inside q.content) (nothing_meant a b c.args.automata.serve behind q.rest)
     (sym c.leads_nowhere.ensures ∙ c.if-leads_nowhere.true))

@@ -19,7 +19,7 @@ use Rattle.xd_points.proofs.moves.add_text_group.Goals as goal
 
 pub stand_for-requires-clause-states : goal.stand_for-requires-clause-states
 stand_for-requires-clause-states c =
-    let b = c.args.patterns.now in
+    let b = c.args.automata.patterns.now in
     let sides = c.args.group.now.sides.items in
     let is : c.deref-5.result.now ≡ with_states sides [] = c.deref-5.ensures.value ∙ c.in_ok-rights.ensures ∙ ap (λ ss. with_states ss []) c.deref-3.ensures.value in
     record {
@@ -30,20 +30,20 @@ stand_for-requires-clause-states c =
 
 pub returns-then-any_marked : goal.returns-then-any_marked
 returns-then-any_marked c =
-    let a = c.args.auto.now in
-    let b = c.args.patterns.now in
+    let a = c.args.automata.lefts.now in
+    let b = c.args.automata.patterns.now in
     let sides : List State = c.args.group.now.sides.items in
-    let marks : List Bool = c.args.patterns.now.taken.universal.items in
+    let marks : List Bool = c.args.automata.patterns.now.taken.universal.items in
     let marked : list_any (is_marked marks) sides ≡ true =
     subst (λ (ss : List State). list_any (is_marked marks) ss ≡ true) c.deref-2.ensures.value
     (subst (λ (ms : List Bool). list_any (is_marked ms) c.deref-2.result.now ≡ true) c.deref.ensures.value (sym c.any_marked.ensures ∙ c.if-any_marked.true)) in
     adds_none c.requires.whole c.requires.leads
-    (λ q. none_taken (rests_accept a b q.rest c.args.rests) (class_has c.args.group.now.class q.characters) (any_accepts b.taken.auto sides q.rest) (marked_accepts b.taken.auto marks sides q.rest c.requires.patterns.universal marked))
+    (λ q. none_taken (rests_accept a b q.rest c.args.rests) (class_has c.args.group.now.class q.characters) (any_accepts b.taken.auto sides q.rest) (marked_accepts b.taken.auto marks sides q.rest c.args.automata.serve.universal marked))
 
 pub returns-then-leaves_nothing : goal.returns-then-leaves_nothing
 returns-then-leaves_nothing c =
-    let a = c.args.auto.now in
-    let b = c.args.patterns.now in
+    let a = c.args.automata.lefts.now in
+    let b = c.args.automata.patterns.now in
     let rests = c.args.rests in
     let sides = c.args.group.now.sides.items in
     let is : c.deref-4.result.now ≡ with_states sides [] = c.deref-4.ensures.value ∙ c.in_ok-rights.ensures ∙ ap (λ ss. with_states ss []) c.deref-3.ensures.value in
@@ -52,11 +52,11 @@ returns-then-leaves_nothing c =
     (λ q.
     ap (λ w. rests_accept a b q.rest rests && (class_has c.args.group.now.class q.characters && not w)) (sym (set_accepts b.taken.auto sides q.rest) ∙ sym (ap (λ (ss : List State). any_accepts b.taken.auto ss q.rest) is))
     ∙ text_none (accepts a q.rest rests.left) (accepts b.auto q.rest rests.pattern) (class_has c.args.group.now.class q.characters) (not (any_accepts b.taken.auto c.deref-4.result.now q.rest))
-    (nothing_meant a b c.requires.patterns (point rests.left rests.pattern c.deref-4.result.now) q.rest none))
+    (nothing_meant a b c.args.automata.serve (point rests.left rests.pattern c.deref-4.result.now) q.rest none))
 
 pub returns : goal.returns
 returns c =
-    let a = c.args.auto.now in let b = c.args.patterns.now in
+    let a = c.args.automata.lefts.now in let b = c.args.automata.patterns.now in
     let sides = c.args.group.now.sides.items in
     let rest = c.in_ok-rest.rest in
     let is : c.deref-5.result.now ≡ with_states sides [] = c.deref-5.ensures.value ∙ c.in_ok-rights.ensures ∙ ap (λ ss. with_states ss []) c.deref-3.ensures.value in

@@ -15,15 +15,15 @@ use Rattle.xd_points.proofs.moves.steps.Goals as goal
 
 pub loop-number-init : goal.loop-number-init
 loop-number-init g c =
-    let a = c.args.auto.now in
-    let b = c.args.patterns.now in
+    let a = c.args.automata.lefts.now in
+    let b = c.args.automata.patterns.now in
     let p = c.args.points.now in
     subst (λ (ms : List g.row.M.Denot). AddsMoves (LeadsAs g.M.PatternMove.states c.index-twos-number.result) (g.M.PatternMove.means a b) a b p p [] ms _) (sym c.new-made.ensures.items) (adds_none c.requires.whole tt (λ q. refl))
 
 pub loop-number-preserved : goal.loop-number-preserved
 loop-number-preserved g c =
-    let a = c.args.auto.now in
-    let b = c.args.patterns.now in
+    let a = c.args.automata.lefts.now in
+    let b = c.args.automata.patterns.now in
     let two = c.index-twos-number.result in
     let takes = g.M.PatternMove.takes in
     let ones = c.moves-ones.result.now in
@@ -43,8 +43,8 @@ loop-number-preserved g c =
 
 pub add_meet-requires : goal.add_meet-requires
 add_meet-requires g c =
-    let a = c.args.auto.now in
-    let b = c.args.patterns.now in
+    let a = c.args.automata.lefts.now in
+    let b = c.args.automata.patterns.now in
     let ones = c.moves-ones.result.now in
     let twos = c.moves-twos.result.now in
     let numbers = c.deref-number-items.result.now in
@@ -55,7 +55,6 @@ add_meet-requires g c =
     let there : c.args.number < length twos = subst (λ (ms : List g.row.M.Denot). c.args.number < length ms) (sym (c.moves-twos.ensures.value ∙ ap (λ (p : PointView). g.M.Move.moves_in (moves_at b.auto p.pattern)) c.of.view_is)) c.requires.number in
     let below = g.M.PatternMove.below in
     record {
-      patterns = c.requires.patterns;
       whole = c.loop-number.invariant.whole;
       leads = c.loop-number.invariant.leads;
       of = c.requires.of;
@@ -65,8 +64,8 @@ add_meet-requires g c =
 
 pub returns : goal.returns
 returns g c m at =
-    let a = c.args.auto.now in
-    let b = c.args.patterns.now in
+    let a = c.args.automata.lefts.now in
+    let b = c.args.automata.patterns.now in
     let of : PointView = c.args.of.now in
     let two = c.index-twos-number.result in
     let takes = g.M.PatternMove.takes in

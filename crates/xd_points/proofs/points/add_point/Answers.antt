@@ -8,7 +8,7 @@ pub returns-clause-whole : goal.returns-clause-whole
 returns-clause-whole c =
     let points : c.push.new.self.items ≡ c.args.points.now.points.items ++ point c.args.left c.args.pattern c.args.rights.now ∷ [] = search rules in
     let number : c.len-number.result ≡ length c.args.points.now.points.items = search rules in
-    added_whole c.args.auto.now c.args.patterns.now c.args.points.now _ c.args.left c.args.pattern c.args.rights.now c.is_last-last.result c.in_ok-state.ensures.ok.1
+    added_whole c.args.automata.lefts.now c.args.automata.patterns.now c.args.points.now _ c.args.left c.args.pattern c.args.rights.now c.is_last-last.result c.in_ok-state.ensures.ok.1
     points c.requires.whole.count c.len-number.result number c.is_last-last.ensures c.requires.states (rw c.requires.key at c.in_ok-put.ensures) c.requires.whole
 
 pub returns-in_err-rights : goal.returns-in_err-rights

@@ -14,4 +14,4 @@ state-requires c =
 pub returns-in-Some-clause-state : goal.returns-in-Some-clause-state
 returns-in-Some-clause-state c =
     let at : found_at c.args.points.now.found (point_key (point c.args.left c.args.pattern c.args.rights.now)) ≡ Some c.in-Some.number.now = ap (found_at c.args.points.now.found) (sym c.in_ok-key.ensures) ∙ sym c.in-Some.ensures.value in
-    found_state c.args.auto.now c.args.patterns.now c.args.points.now c.args.left c.args.pattern c.args.rights.now c.state.result c.requires.whole (at ∙ ap Some (sym c.state.ensures.number))
+    found_state c.args.automata.lefts.now c.args.automata.patterns.now c.args.points.now c.args.left c.args.pattern c.args.rights.now c.state.result c.requires.whole (at ∙ ap Some (sym c.state.ensures.number))

@@ -9,20 +9,20 @@ use Rattle.xd_points.proofs.steps.expand.Goals as goal
 
 pub set_moves-requires-clause-labels : goal.set_moves-requires-clause-labels
 set_moves-requires-clause-labels c =
-    let a = c.args.auto.now in let b = c.args.patterns.now in
+    let a = c.args.automata.lefts.now in let b = c.args.automata.patterns.now in
     labels_lead a b _ c.moves_of.new.points c.moves_of-2.new.points c.in_ok-labels.labels.items c.in_ok-labels.label_numbers.items c.in_ok-labels.ensures.stand.steps
     (keeps c.moves_of.new.points c.moves_of-2.new.points c.in_ok-texts.ensures.grows) c.in_ok-texts.ensures.whole
 
 pub set_moves-requires-clause-texts : goal.set_moves-requires-clause-texts
 set_moves-requires-clause-texts c =
-    let a = c.args.auto.now in let b = c.args.patterns.now in
+    let a = c.args.automata.lefts.now in let b = c.args.automata.patterns.now in
     texts_lead a b _ c.moves_of-2.new.points c.moves_of-2.new.points c.in_ok-texts.texts.items c.in_ok-texts.text_numbers.items c.in_ok-texts.ensures.stand.steps
     (keeps_same c.moves_of-2.new.points) c.in_ok-texts.ensures.whole
 
 pub returns-clause-expanded : goal.returns-clause-expanded
 returns-clause-expanded c =
-    let a = c.args.auto.now in
-    let b = c.args.patterns.now in
+    let a = c.args.automata.lefts.now in
+    let b = c.args.automata.patterns.now in
     let p = c.args.points.now in
     let new = c.moves_of-2.new.points in
     let made = c.set_moves.new.self in
@@ -40,8 +40,8 @@ returns-clause-expanded c =
 
 pub returns-clause-moves : goal.returns-clause-moves
 returns-clause-moves c =
-    let a = c.args.auto.now in
-    let b = c.args.patterns.now in
+    let a = c.args.automata.lefts.now in
+    let b = c.args.automata.patterns.now in
     let p = c.args.points.now in
     let new = c.moves_of-2.new.points in
     let made = c.set_moves.new.self in
@@ -58,11 +58,11 @@ returns-clause-moves c =
 
 pub returns-then-is_old-clause-expanded : goal.returns-then-is_old-clause-expanded
 returns-then-is_old-clause-expanded c =
-    let b = c.args.patterns.now in
+    let b = c.args.automata.patterns.now in
     let p = c.args.points.now in
     let rows = c.args.rows.now.items in
     let n : c.len-number.result ≡ length rows = omega (arith, c.len-number.ensures, c.args.rows.now.ok.0) in
     let is : point c.of.inside.left c.of.inside.pattern c.deref.result.now ≡ point_at p.points.items (length rows) =
     ap (point c.of.inside.left c.of.inside.pattern) c.deref.ensures.value ∙ c.of.view_is ∙ c.in_ok-of.ensures ∙ ap (point_at p.points.items) n in
-    subst (AreExpanded c.args.first c.args.auto.now b p) (sym c.in_ok-add_bare.ensures)
-    (expanded_bare c.args.first c.args.auto.now b p rows c.requires.expanded c.requires.more (sym (ap (is_old_point b) is) ∙ sym c.is_old.ensures ∙ c.if-is_old.true))
+    subst (AreExpanded c.args.first c.args.automata.lefts.now b p) (sym c.in_ok-add_bare.ensures)
+    (expanded_bare c.args.first c.args.automata.lefts.now b p rows c.requires.expanded c.requires.more (sym (ap (is_old_point b) is) ∙ sym c.is_old.ensures ∙ c.if-is_old.true))

@@ -15,8 +15,8 @@ use Rattle.xd_points.proofs.steps.moves_of.Goals as goal
 
 pub loop-number-init : goal.loop-number-init
 loop-number-init g c =
-    let a = c.args.auto.now in
-    let b = c.args.patterns.now in
+    let a = c.args.automata.lefts.now in
+    let b = c.args.automata.patterns.now in
     let of : PointView = c.args.of.now in
     let p = c.args.points.now in
     let states = g.M.PatternMove.states in
@@ -35,8 +35,8 @@ loop-number-init g c =
 
 pub loop-number-preserved : goal.loop-number-preserved
 loop-number-preserved g c =
-    let a = c.args.auto.now in
-    let b = c.args.patterns.now in
+    let a = c.args.automata.lefts.now in
+    let b = c.args.automata.patterns.now in
     let of : PointView = c.args.of.now in
     let first = c.args.first in
     let states = g.M.PatternMove.states in
@@ -68,8 +68,8 @@ loop-number-preserved g c =
 
 pub returns-clause-stand : goal.returns-clause-stand
 returns-clause-stand g c =
-    let a = c.args.auto.now in
-    let b = c.args.patterns.now in
+    let a = c.args.automata.lefts.now in
+    let b = c.args.automata.patterns.now in
     let of : PointView = c.args.of.now in
     let document = g.M.PatternMove.document in
     let t = g.M.PatternMove.takes b.auto in

@@ -4,7 +4,7 @@ use Rattle.xd_points.proofs.table.expand_all.Given as goal
 
 abbrev pub invariant-loop-number : goal.invariant-loop-number
 invariant-loop-number l = record {
-  expanded : AreExpanded l.fn.first l.fn.auto l.fn.patterns l.points l.rows.items;
+  expanded : AreExpanded l.fn.first l.fn.automata.lefts.now l.fn.automata.patterns.now l.points l.rows.items;
   keeps : KeepsPoints l.initial.points l.points;
   moves : KeepMoves (length l.initial.rows.items) l.initial.points l.points;
   longer : length l.initial.rows.items ≤ length l.rows.items;

@@ -22,8 +22,8 @@ use Rattle.xd_points.proofs.moves.LabelMovePatternMove.add_meet.Goals as goal
 
 pub loop-group-preserved : goal.loop-group-preserved
 loop-group-preserved c =
-    let a = c.args.auto.now in
-    let b = c.args.patterns.now in
+    let a = c.args.automata.lefts.now in
+    let b = c.args.automata.patterns.now in
     let one = label_side c.args.one.now in
     let two = label_side c.args.two.now in
     let parts : Parts = record { left = one; pattern = two } in
@@ -43,8 +43,8 @@ loop-group-preserved c =
 
 pub returns : goal.returns
 returns c =
-    let a = c.args.auto.now in
-    let b = c.args.patterns.now in
+    let a = c.args.automata.lefts.now in
+    let b = c.args.automata.patterns.now in
     let one = label_side c.args.one.now in
     let two = label_side c.args.two.now in
     let parts : Parts = record { left = one; pattern = two } in
@@ -53,8 +53,8 @@ returns c =
     let same : made ≡ parts = ap (λ (l : MoveSide). let k : Parts = record { left = l; pattern = c.side_of-2.result } in k) c.side_of.ensures ∙ ap (λ (r : MoveSide). let k : Parts = record { left = one; pattern = r } in k) c.side_of-2.ensures in
     let class : LabelClass = c.in-Some.class in
     let moves : List LabelMove = c.in_ok-moves.moves.items in
-    let refused : ElementFirst → Bool = λ q. taken_before (move_takes b.auto q) (moves_at b.auto c.args.of.now.pattern).labels b c.args.of.now c.args.place (element_of q) in
-    let refusing = subst (λ (k : Parts). AreRefusing a b c.args.of.now class k c.args.place moves) same c.in_ok-moves.ensures in
+    let refused : ElementFirst → Bool = λ q. taken_before (move_takes b.auto q) (moves_at b.auto c.args.refusing.of.now.pattern).labels b c.args.refusing.of.now c.args.refusing.place (element_of q) in
+    let refusing = subst (λ (k : Parts). AreRefusing a b c.args.refusing.of.now class k c.args.refusing.place moves) same c.in_ok-moves.ensures in
     let part : IsPart true c.args.one.now.class c.args.two.now.class (Some class) = subst (λ (o : Option LabelClass). IsPart true c.args.one.now.class c.args.two.now.class o) c.in-Some.is c.in_ok-class.ensures in
     adds_like c.loop-group.invariant.adds
     (λ q.

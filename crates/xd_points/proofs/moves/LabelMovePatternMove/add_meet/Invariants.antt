@@ -9,7 +9,7 @@ use Rattle.xd_points.proofs.moves.LabelMovePatternMove.add_meet.Given as goal
 
 abbrev pub invariant-loop-group : goal.invariant-loop-group
 invariant-loop-group l = record {
-  adds : AddsLabels (label_side l.two) l.auto' l.patterns l.initial.points l.points l.initial.labels.items l.labels.items
-      (λ q. parts_accept l.auto' l.patterns q.content q.rest (record { left = label_side l.one; pattern = label_side l.two }) && list_any (label_refused l.patterns.taken.auto q) (take l.group-index l.group-items));
-  left : AllByRecursion (λ (g : LabelRefusal). AllChoices l.patterns.taken.auto g.choices.items) (drop l.group-index l.group-items);
+  adds : AddsLabels (label_side l.two) l.automata.lefts.now l.automata.patterns.now l.initial.points l.points l.initial.labels.items l.labels.items
+      (λ q. parts_accept l.automata.lefts.now l.automata.patterns.now q.content q.rest (record { left = label_side l.one; pattern = label_side l.two }) && list_any (label_refused l.automata.patterns.now.taken.auto q) (take l.group-index l.group-items));
+  left : AllByRecursion (λ (g : LabelRefusal). AllChoices l.automata.patterns.now.taken.auto g.choices.items) (drop l.group-index l.group-items);
 }

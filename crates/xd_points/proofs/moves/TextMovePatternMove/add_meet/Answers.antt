@@ -20,8 +20,8 @@ use Rattle.xd_points.proofs.moves.TextMovePatternMove.add_meet.Goals as goal
 
 pub loop-group-preserved : goal.loop-group-preserved
 loop-group-preserved c =
-    let a = c.args.auto.now in
-    let b = c.args.patterns.now in
+    let a = c.args.automata.lefts.now in
+    let b = c.args.automata.patterns.now in
     let two : State = c.args.two.now.rest in
     let rests : Rests = record { left = c.args.one.now.rest; pattern = two } in
     let items = c.deref-group-items.result.now in
@@ -36,14 +36,14 @@ loop-group-preserved c =
 
 pub returns : goal.returns
 returns c =
-    let a = c.args.auto.now in
-    let b = c.args.patterns.now in
+    let a = c.args.automata.lefts.now in
+    let b = c.args.automata.patterns.now in
     let one : State = c.args.one.now.rest in
     let two : State = c.args.two.now.rest in
     let parts : Rests = record { left = one; pattern = two } in
     let items = c.deref-group-items.result.now in
-    let rights : List State = c.args.of.now.rights in
-    let pattern : State = c.args.of.now.pattern in
+    let rights : List State = c.args.refusing.of.now.rights in
+    let pattern : State = c.args.refusing.of.now.pattern in
     let rights_are : c.deref.result.now ≡ rights = c.deref.ensures.value ∙ ap (λ (p : PointView). p.rights) c.of.view_is in
     let pattern_is : c.of.inside.pattern ≡ pattern = ap (λ (p : PointView). p.pattern) c.of.view_is in
     let class : TextClass = c.in-Some.words in
@@ -53,14 +53,14 @@ returns c =
     ap (λ w. rests_accept a b q.rest parts && w)
     (any_walked (group_refuses class_has (λ (s : State). accepts b.taken.auto q.rest s) q.characters) items c.loop-group.group-index c.loop-group-test.false ∙ ap (any_group class_has (λ (s : State). accepts b.taken.auto q.rest s) q.characters) c.deref-group-items.ensures.value
     ∙ c.in_ok-groups.ensures.taken q
-    ∙ ap (λ (rs : List State). class_has class q.characters && not (any_accepts b.taken.auto rs (text_of q) || list_any (text_takes b.taken.auto q) (take c.args.place (moves_at b.taken.auto c.of.inside.pattern).texts))) rights_are
-    ∙ ap (λ (s : State). class_has class q.characters && not (any_accepts b.taken.auto rights (text_of q) || list_any (text_takes b.taken.auto q) (take c.args.place (moves_at b.taken.auto s).texts))) pattern_is
-    ∙ ap (λ w. class_has class q.characters && not (any_accepts b.taken.auto rights (text_of q) || w)) (text_before_same a b c.requires.patterns pattern c.args.place q)
-    ∙ ap (λ w. w && not (any_accepts b.taken.auto rights (text_of q) || list_any (text_takes b.auto q) (take c.args.place (moves_at b.auto pattern).texts))) (part q.characters))
-    ∙ met (class_has c.args.one.now.words q.characters) (class_has c.args.two.now.words q.characters) (accepts a q.rest one) (accepts b.auto q.rest two) (not (any_accepts b.taken.auto rights (text_of q) || list_any (text_takes b.auto q) (take c.args.place (moves_at b.auto pattern).texts))))
+    ∙ ap (λ (rs : List State). class_has class q.characters && not (any_accepts b.taken.auto rs (text_of q) || list_any (text_takes b.taken.auto q) (take c.args.refusing.place (moves_at b.taken.auto c.of.inside.pattern).texts))) rights_are
+    ∙ ap (λ (s : State). class_has class q.characters && not (any_accepts b.taken.auto rights (text_of q) || list_any (text_takes b.taken.auto q) (take c.args.refusing.place (moves_at b.taken.auto s).texts))) pattern_is
+    ∙ ap (λ w. class_has class q.characters && not (any_accepts b.taken.auto rights (text_of q) || w)) (text_before_same a b c.args.automata.serve pattern c.args.refusing.place q)
+    ∙ ap (λ w. w && not (any_accepts b.taken.auto rights (text_of q) || list_any (text_takes b.auto q) (take c.args.refusing.place (moves_at b.auto pattern).texts))) (part q.characters))
+    ∙ met (class_has c.args.one.now.words q.characters) (class_has c.args.two.now.words q.characters) (accepts a q.rest one) (accepts b.auto q.rest two) (not (any_accepts b.taken.auto rights (text_of q) || list_any (text_takes b.auto q) (take c.args.refusing.place (moves_at b.auto pattern).texts))))
 
 pub text_groups_before-requires-clause-own : goal.text_groups_before-requires-clause-own
 text_groups_before-requires-clause-own c =
-    let b = c.args.patterns.now in
+    let b = c.args.automata.patterns.now in
     let here : IsState b.auto c.of.inside.pattern = subst (λ (p : PointView). IsState b.auto p.pattern) (sym c.of.view_is) c.requires.of.pattern in
-    omega (arith, here, c.requires.patterns.count)
+    omega (arith, here, c.args.automata.serve.count)

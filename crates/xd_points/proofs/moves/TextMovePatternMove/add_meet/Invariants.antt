@@ -8,7 +8,7 @@ use Rattle.xd_points.proofs.moves.TextMovePatternMove.add_meet.Given as goal
 
 abbrev pub invariant-loop-group : goal.invariant-loop-group
 invariant-loop-group l = record {
-  adds : AddsTexts l.two.rest l.auto' l.patterns l.initial.points l.points l.initial.texts.items l.texts.items
-      (λ q. rests_accept l.auto' l.patterns q.rest (record { left = l.one.rest; pattern = l.two.rest }) && any_group class_has (λ s. accepts l.patterns.taken.auto q.rest s) q.characters (take l.group-index l.group-items));
-  left : AllSides (is_state l.patterns.taken.auto) (drop l.group-index l.group-items);
+  adds : AddsTexts l.two.rest l.automata.lefts.now l.automata.patterns.now l.initial.points l.points l.initial.texts.items l.texts.items
+      (λ q. rests_accept l.automata.lefts.now l.automata.patterns.now q.rest (record { left = l.one.rest; pattern = l.two.rest }) && any_group class_has (λ s. accepts l.automata.patterns.now.taken.auto q.rest s) q.characters (take l.group-index l.group-items));
+  left : AllSides (is_state l.automata.patterns.now.taken.auto) (drop l.group-index l.group-items);
 }

@@ -9,12 +9,13 @@ pub stand_for-requires-clause-states : goal.stand_for-requires-clause-states
 stand_for-requires-clause-states c = record {
   left = c.requires.left;
   pattern = c.requires.pattern;
-  rights = rights_belong c.args.auto.now c.args.patterns.now c.requires.patterns c.args.rights.now c.requires.rights;
+  rights = rights_belong c.args.auto.now c.args.patterns.now c.requires.patterns c.args.asked.rights.now c.requires.rights;
 }
 
-pub expand_all-requires-clause-expanded : goal.expand_all-requires-clause-expanded
-expand_all-requires-clause-expanded c =
-    expanded_grown c.args.self.now.first c.args.auto.now c.args.patterns.now c.args.self.now.points c.stand_for.new.points c.args.self.now.rows.items c.requires.table.expanded c.in_ok-start.ensures.grows c.in_ok-start.ensures.whole
+pub expand_all-requires : goal.expand_all-requires
+expand_all-requires c = record {
+  expanded = expanded_grown c.args.self.now.first c.args.auto.now c.args.patterns.now c.args.self.now.points c.stand_for.new.points c.args.self.now.rows.items c.requires.table.expanded c.in_ok-start.ensures.grows c.in_ok-start.ensures.whole;
+}
 
 pub learn-requires : goal.learn-requires
 learn-requires c =
@@ -45,7 +46,7 @@ place_points-requires-clause-stands c = λ d i lt.
     let t = c.requires.table in
     let there : i < length c.args.self.now.points.points.items = omega (arith, lt, t.count) in
     t.stands d i there
-    ∙ sym (first_mean c.args.auto.now c.args.patterns.now c.requires.patterns c.args.self.now.points c.stand_for.new.points c.expand_all.new.points c.args.left c.args.pattern c.args.rights.now c.in_ok-start.start
+    ∙ sym (first_mean c.args.auto.now c.args.patterns.now c.requires.patterns c.args.self.now.points c.stand_for.new.points c.expand_all.new.points c.args.asked.left c.args.asked.pattern c.args.asked.rights.now c.in_ok-start.start
     c.in_ok-start.ensures.grows c.in_ok-start.ensures.state c.in_ok-expand_all.ensures.keeps d i there)
 
 pub returns-clause-table : goal.returns-clause-table
@@ -68,13 +69,13 @@ returns-clause-table c =
 
 pub returns-clause-belongs : goal.returns-clause-belongs
 returns-clause-belongs c =
-    let here = within c.args.auto.now c.args.patterns.now c.requires.patterns c.args.self.now.points c.stand_for.new.points c.expand_all.new.points c.args.left c.args.pattern c.args.rights.now c.in_ok-start.start
+    let here = within c.args.auto.now c.args.patterns.now c.requires.patterns c.args.self.now.points c.stand_for.new.points c.expand_all.new.points c.args.asked.left c.args.asked.pattern c.args.asked.rights.now c.in_ok-start.start
     c.in_ok-start.ensures.grows c.in_ok-start.ensures.state c.in_ok-expand_all.ensures.keeps in
     omega (arith, here, c.in_ok-expand_all.ensures.expanded.whole.count)
 
 pub returns-clause-pattern : goal.returns-clause-pattern
 returns-clause-pattern c =
-    start_is c.args.auto.now c.args.patterns.now c.requires.patterns c.args.self.now.points c.stand_for.new.points c.expand_all.new.points c.args.left c.args.pattern c.args.rights.now c.in_ok-start.start
+    start_is c.args.auto.now c.args.patterns.now c.requires.patterns c.args.self.now.points c.stand_for.new.points c.expand_all.new.points c.args.asked.left c.args.asked.pattern c.args.asked.rights.now c.in_ok-start.start
     c.in_ok-start.ensures.grows c.in_ok-start.ensures.state c.in_ok-expand_all.ensures.keeps
 
 pub returns-clause-means : goal.returns-clause-means
@@ -84,8 +85,8 @@ returns-clause-means c = λ d.
     let n = c.place_points.new.auto in
     let new = c.expand_all.new.points in
     let start = c.in_ok-start.start in
-    let here = within a b c.requires.patterns c.args.self.now.points c.stand_for.new.points new c.args.left c.args.pattern c.args.rights.now start
+    let here = within a b c.requires.patterns c.args.self.now.points c.stand_for.new.points new c.args.asked.left c.args.asked.pattern c.args.asked.rights.now start
     c.in_ok-start.ensures.grows c.in_ok-start.ensures.state c.in_ok-expand_all.ensures.keeps in
     sym (mean_after a n b c.len-states.ensures.closed c.place_points.ensures.extends new c.args.self.now.first c.expand_all.new.rows.items c.in_ok-expand_all.ensures.expanded d start.number here)
-    ∙ start_means a b c.requires.patterns c.args.self.now.points c.stand_for.new.points new c.args.left c.args.pattern c.args.rights.now start
+    ∙ start_means a b c.requires.patterns c.args.self.now.points c.stand_for.new.points new c.args.asked.left c.args.asked.pattern c.args.asked.rights.now start
     c.in_ok-start.ensures.grows c.in_ok-start.ensures.state c.in_ok-expand_all.ensures.keeps d
