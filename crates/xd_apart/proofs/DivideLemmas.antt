@@ -1,18 +1,17 @@
 -- How moves are divided.
-use Rattle.std.proofs.Common.{◌≡◌, ℕ, zero, suc, ◌-◌, ◌<◌, Bool, true, false, ◌&&◌, ◌⊎◌, inl, inr, List, [], ◌∷◌, ◌++◌, length, get_or, set, take, drop, refl, ap, sym, subst, ◌∙◌, arith}
-use Rattle.std.specs.Prelude.{not}
+use Rattle.std.proofs.Common.{◌≡◌, ℕ, zero, suc, ◌-◌, ◌<◌, Bool, true, false, ◌⊎◌, inl, inr, Option, Some, None, List, [], ◌∷◌, ◌++◌, length, get_or, set, take, drop, refl, ap, sym, subst, ◌∙◌, arith}
+use Rattle.std.specs.Option.{IfSome}
 use Rattle.std.specs.List.{All, Contains, remove}
 use Rattle.std.proofs.lemmas.List.{get_or_default, set-append_right}
 use Rattle.std.proofs.lemmas.List.Elements.{All-append, All-drop, All-get_or, All-take}
 use Rattle.std.proofs.lemmas.List.Sorted.{Contains-permutation, IsPermutation-remove}
-use Rattle.std.proofs.lemmas.Bool.{and_from}
-use Rattle.xd_doc.specs.Classes.{NameClass, class_has}
 use Rattle.xd_auto.specs.declared.auto.State.{State}
 use Rattle.xd_auto.specs.declared.auto.LabelMove.{LabelMove}
 use Rattle.xd_auto.specs.declared.auto.TextMove.{TextMove}
+use Rattle.xd_auto.specs.declared.leading.Ends.{Ends}
 use Rattle.xd_auto.specs.Automaton.{Automaton, StateMoves, moves_at, no_moves, state_number, with_moves}
 use Rattle.xd_boole.proofs.ArePointsLemmas.{at_end}
-use Rattle.xd_apart.specs.Loose.{AddsInside, AddsOutside, AddsTextInside, AddsTextOutside, DividesLabels, DividesTexts, HasMove, HasTextMove, copied}
+use Rattle.xd_apart.specs.Loose.{Adds, Divides, EndsBelow, HasMove, behind_to, copied, in_both, in_first, in_place, inside_to}
 
 first_or_later : {X : Type 0} (x v : X) (xs : List X) → Contains (x ∷ xs) v → Contains xs v ⊎ (v ≡ x)
 first_or_later x v xs (zero, c, e) = inr (sym e)
@@ -32,30 +31,32 @@ All-remove P xs i h = All-append P (take i xs) (drop (suc i) xs) (All-take P i x
 pub All-at : {X : Type 0} (P : X → Type 0) (xs : List X) (i : ℕ) (x : X) → i < length xs → x ≡ get_or xs i x → All P xs → P x
 All-at P xs i x lt at h = subst P (sym at) (All-get_or P xs i x lt h)
 
-module _ (w m : LabelMove) where
-  pub has_kept : (old new : List LabelMove) (l : List ℕ) (content rest : State) → ((v : LabelMove) → Contains old v → Contains new v) → HasMove old l content rest → HasMove new l content rest
-  has_kept old new l content rest keeps h = record { move = h.move; among = keeps h.move h.among; label = h.label; content_is = h.content_is; rest_is = h.rest_is }
+module _ {M : Type 0} (has : M → List ℕ → Bool) (ends_of : M → Ends) where
+  has_kept : (old new : List M) (name : List ℕ) (e : Ends) → ((v : M) → Contains old v → Contains new v) → HasMove has ends_of old name e → HasMove has ends_of new name e
+  has_kept old new name e keeps h = record { move = h.move; among = keeps h.move h.among; named = h.named; ends = h.ends }
+
+  if_kept : (on : List ℕ → Bool) (w : Ends) (o : Option State) (old new : List M) → ((v : M) → Contains old v → Contains new v) → IfSome o (λ s. (name : List ℕ) → on name ≡ true → HasMove has ends_of old name (inside_to s w))
+      → IfSome o (λ s. (name : List ℕ) → on name ≡ true → HasMove has ends_of new name (inside_to s w))
+  if_kept on w None old new keeps h = tt
+  if_kept on w (Some s) old new keeps h = λ name e. has_kept old new name (inside_to s w) keeps (h name e)
 
   -- the parts of a division, one after the other
-  pub divides_labels : (content rest : State) (labels others inside all : List LabelMove) → ((v : LabelMove) → Contains labels v → Contains others v ⊎ (v ≡ w)) → AddsInside w m content rest others inside → AddsOutside w m inside all → DividesLabels w m content rest labels all
-  divides_labels content rest labels others inside all removed one two = record {
-    others = λ v c. (elim (removed v c) [ inl k ↦ inl (two.keeps v (one.keeps v k)) | inr e ↦ inr e ]);
-    content_side = λ l h k. has_kept inside all l content w.rest two.keeps (one.content_side l h k);
-    rest_side = λ l h k. has_kept inside all l w.content rest two.keeps (one.rest_side l h k);
-    outside = two.outside;
+  pub divides : (w m : M) (by : Ends) (moves others shared all : List M) → ((v : M) → Contains moves v → Contains others v ⊎ (v ≡ w)) → ((v : M) → Contains others v → Contains shared v)
+      → IfSome by.inside (λ s. (name : List ℕ) → in_both has w m name ≡ true → HasMove has ends_of shared name (inside_to s (ends_of w))) → ((name : List ℕ) → in_both has w m name ≡ true → HasMove has ends_of shared name (behind_to by.behind (ends_of w)))
+      → Adds has ends_of (in_first has w m) (ends_of w) shared all → Divides has ends_of w m by moves all
+  divides w m by moves others shared all removed keeps inside behind two = record {
+    others = λ v c. (elim (removed v c) [ inl k ↦ inl (two.keeps v (keeps v k)) | inr e ↦ inr e ]);
+    inside = if_kept (in_both has w m) (ends_of w) by.inside shared all two.keeps inside;
+    behind = λ name k. has_kept shared all name (behind_to by.behind (ends_of w)) two.keeps (behind name k);
+    outside = two.there;
   }
 
--- the same of texts
-module _ (w m : TextMove) where
-  pub has_text_kept : (old new : List TextMove) (t : List ℕ) (rest : State) → ((v : TextMove) → Contains old v → Contains new v) → HasTextMove old t rest → HasTextMove new t rest
-  has_text_kept old new t rest keeps h = record { move = h.move; among = keeps h.move h.among; characters = h.characters; rest_is = h.rest_is }
-
-  pub divides_texts : (rest : State) (texts others inside all : List TextMove) → ((v : TextMove) → Contains texts v → Contains others v ⊎ (v ≡ w)) → AddsTextInside w m rest others inside → AddsTextOutside w m inside all → DividesTexts w m rest texts all
-  divides_texts rest texts others inside all removed one two = record {
-    others = λ v c. (elim (removed v c) [ inl k ↦ inl (two.keeps v (one.keeps v k)) | inr e ↦ inr e ]);
-    rest_side = λ t h k. has_text_kept inside all t rest two.keeps (one.rest_side t h k);
-    outside = two.outside;
-  }
+pub inside_below : (n : ℕ) (s : State) (e : Ends) → state_number s < n → EndsBelow n e → EndsBelow n (inside_to s e)
+inside_below n s e lt below = (below.0, go e.inside)
+  where
+    go : (o : Option State) → IfSome (in_place s o) (λ t. state_number t < n)
+    go None = tt
+    go (Some t) = lt
 
 -- what was put after a list is exchanged
 pub set_at_end : {X : Type 0} (xs : List X) (x y : X) (i : ℕ) → i ≡ length xs → set (xs ++ x ∷ []) i y ≡ xs ++ y ∷ []
@@ -75,30 +76,3 @@ pub copied_at_end : (old made after : Automaton) (s : State) (last : Bool) (labe
 copied_at_end old made after s last labels texts n at added f g is =
     is ∙ ap (λ (v : StateMoves). set made (state_number s) v) (with_fields (moves_at made s) n last labels texts (at_end old made (no_moves last) (no_moves false) (state_number s) added at) f g)
     ∙ ap (λ (xs : Automaton). set xs (state_number s) (copied last n)) added ∙ set_at_end old (no_moves last) (copied last n) (state_number s) at
-
-both_not : (x y : Bool) → x ≡ true → y ≡ false → (x && not y) ≡ true
-both_not true true e f = absurd (cc)
-both_not true false e f = refl
-both_not false y e f = absurd (cc)
-
--- the sides of a division, one added after the other
-pub added_inside : (w m : LabelMove) (part same : NameClass) (content rest : State) (old one new : List LabelMove) → ((l : List ℕ) → class_has part l ≡ (class_has w.class l && class_has m.class l)) → same ≡ part
-    → ((v : LabelMove) → Contains old v → Contains one v) → ((l : List ℕ) → class_has same l ≡ true → HasMove one l content w.rest) → ((v : LabelMove) → Contains one v → Contains new v) → ((l : List ℕ) → class_has part l ≡ true → HasMove new l w.content rest)
-    → AddsInside w m content rest old new
-added_inside w m part same content rest old one new is e keeps_one has_one keeps_new has_new = record {
-  keeps = λ v c. keeps_new v (keeps_one v c);
-  content_side = λ l h k. has_kept w m one new l content w.rest keeps_new (has_one l (ap (λ (c : NameClass). class_has c l) e ∙ is l ∙ and_from (class_has w.class l) (class_has m.class l) h k));
-  rest_side = λ l h k. has_new l (is l ∙ and_from (class_has w.class l) (class_has m.class l) h k);
-}
-
-pub added_outside : (w m : LabelMove) (part : NameClass) (old new : List LabelMove) → ((l : List ℕ) → class_has part l ≡ (class_has w.class l && not (class_has m.class l))) → ((v : LabelMove) → Contains old v → Contains new v) → ((l : List ℕ) → class_has part l ≡ true → HasMove new l w.content w.rest)
-    → AddsOutside w m old new
-added_outside w m part old new is keeps has = record { keeps = keeps; outside = λ l h k. has l (is l ∙ both_not (class_has w.class l) (class_has m.class l) h k) }
-
-pub added_text_inside : (w m : TextMove) (part : NameClass) (rest : State) (old new : List TextMove) → ((t : List ℕ) → class_has part t ≡ (class_has w.words t && class_has m.words t)) → ((v : TextMove) → Contains old v → Contains new v) → ((t : List ℕ) → class_has part t ≡ true → HasTextMove new t rest)
-    → AddsTextInside w m rest old new
-added_text_inside w m part rest old new is keeps has = record { keeps = keeps; rest_side = λ t h k. has t (is t ∙ and_from (class_has w.words t) (class_has m.words t) h k) }
-
-pub added_text_outside : (w m : TextMove) (part : NameClass) (old new : List TextMove) → ((t : List ℕ) → class_has part t ≡ (class_has w.words t && not (class_has m.words t))) → ((v : TextMove) → Contains old v → Contains new v) → ((t : List ℕ) → class_has part t ≡ true → HasTextMove new t w.rest)
-    → AddsTextOutside w m old new
-added_text_outside w m part old new is keeps has = record { keeps = keeps; outside = λ t h k. has t (is t ∙ both_not (class_has w.words t) (class_has m.words t) h k) }

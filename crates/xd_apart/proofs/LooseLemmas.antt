@@ -1,24 +1,25 @@
 -- What loose automata accept, and how they are made closer.
-use Rattle.std.proofs.Common.{◌≡◌, ℕ, ◌<◌, ◌≤◌, Bool, true, false, ◌&&◌, ◌⊎◌, inl, inr, List, [], ◌∷◌, ◌++◌, length, refl, ap, sym, subst, ◌∙◌, arith, length-append, get_or-set_same, get_or-set_other}
+use Rattle.std.proofs.Common.{◌≡◌, ℕ, ◌<◌, ◌≤◌, Bool, true, false, ◌&&◌, ◌⊎◌, inl, inr, Option, Some, None, List, [], ◌∷◌, ◌++◌, length, refl, ap, sym, subst, ◌∙◌, arith, length-append, get_or-set_same, get_or-set_other}
 use Rattle.std.specs.Prelude.{not}
 use Rattle.std.specs.List.{AllByRecursion, Contains, list_any}
-use Rattle.std.proofs.lemmas.Bool.{cases_eq}
+use Rattle.std.specs.Option.{IfSome}
+use Rattle.std.proofs.lemmas.Bool.{and_from, cases_eq}
 use Rattle.std.proofs.lemmas.List.{length-set}
 use Rattle.std.proofs.lemmas.List.Elements.{All-contains}
 use Rattle.std.proofs.lemmas.List.Folds.{Any-from_list_any, list_any_at}
 use Rattle.xd_doc.specs.Document.{Document, empty, text, element}
 use Rattle.xd_doc.specs.Classes.{class_has}
-use Rattle.xd_doc.specs.Least.{IsLeast}
 use Rattle.xd_doc.proofs.Bools.{and_true, and_parts}
 use Rattle.xd_auto.specs.declared.auto.State.{State}
 use Rattle.xd_auto.specs.declared.auto.LabelMove.{LabelMove}
 use Rattle.xd_auto.specs.declared.auto.TextMove.{TextMove}
-use Rattle.xd_auto.specs.Automaton.{Automaton, IsState, LeadsBelow, StateMoves, accepts, moves_at, no_moves, state_number, with_moves}
-use Rattle.xd_auto.proofs.Closed.{same_state}
-use Rattle.xd_boole.specs.Meaning.{ElementFirst, PointView, TextFirst, any_accepts, element_of, is_last_in, less, means, move_takes, text_of, text_takes}
+use Rattle.xd_auto.specs.declared.leading.Ends.{Ends}
+use Rattle.xd_auto.specs.Automaton.{Automaton, IsState, LeadsBelow, StateMoves, accepts, has_label, has_text, moves_at, no_moves, state_number, with_moves}
+use Rattle.xd_auto.specs.Leading.{label_ends, text_ends}
+use Rattle.xd_boole.specs.Meaning.{PointView, any_accepts, is_last_in, less, means}
 use Rattle.xd_boole.specs.Points.{IsPointOf, no_point, point_at, state_at}
 use Rattle.xd_boole.proofs.ArePointsLemmas.{at_end, at_front, place_cases}
-use Rattle.xd_apart.specs.Loose.{AreLoose, DividesLabels, DividesTexts, HasMove, HasTextMove, IsLoose, KeepsPoints, Loosens, Narrows, TakesElement, TakesText, copied}
+use Rattle.xd_apart.specs.Loose.{AreBelow, AreLoose, AreTaking, Divides, EndsBelow, First, HasMove, IsKind, IsLikeInside, IsLoose, KeepsPoints, LeadOver, Loosens, MeantAt, Narrows, NarrowsEnds, NarrowsInside, Takes, behind_to, copied, element_first, ends_accept, in_both, in_place, inside_accepts, inside_to, label_kind, text_first, text_kind}
 use Rattle.xd_apart.proofs.ApartLemmas.{both_true}
 
 -- one of the list passes a test, so some does
@@ -34,205 +35,134 @@ none_at p xs x c none = go (p x) refl
 
 -- a loose automaton accepts at least what its points mean
 module _ (a b over : Automaton) (points : List PointView) (loose : AreLoose a b over points) where
-  at_state : (s : State) → state_number s < length points → IsLoose a b over points (point_at points (state_number s)) s
-  at_state s lt = subst (λ t. IsLoose a b over points (point_at points (state_number s)) t) (same_state (state_at (state_number s)) s refl) (loose (state_number s) lt)
-
   pub loose_accepts : (d : Document) (s : State) → state_number s < length points → means a b (point_at points (state_number s)) d ≡ true → accepts over d s ≡ true
-  loose_accepts empty s lt m = (at_state s lt).last m
+  loose_accepts empty s lt m = (loose (state_number s) lt).last m
   loose_accepts (text t r) s lt m =
-      let w = (at_state s lt).texts (record { characters = t; rest = r }) m in
+      let w = (loose (state_number s) lt).texts (record { name = t; inside = empty; behind = r }) m in
       any_of (λ (v : TextMove). class_has v.words t && accepts over r v.rest) (moves_at over s).texts w.0 w.1
-      (rw (w.2.characters, loose_accepts r w.0.rest w.2.rest_there w.2.rest) refl)
+      (and_from (class_has w.0.words t) (accepts over r w.0.rest) w.2.name (loose_accepts r w.0.rest w.2.ends.0.there w.2.ends.0.meant))
   loose_accepts (element l c r) s lt m =
-      let w = (at_state s lt).elements (record { label = l; content = c; rest = r }) m in
+      let w = (loose (state_number s) lt).elements (record { name = l; inside = c; behind = r }) m in
       any_of (λ (v : LabelMove). class_has v.class l && (accepts over c v.content && accepts over r v.rest)) (moves_at over s).labels w.0 w.1
-      (rw (w.2.label, loose_accepts c w.0.content w.2.content_there w.2.content, loose_accepts r w.0.rest w.2.rest_there w.2.rest) refl)
+      (and_from (class_has w.0.class l) (accepts over c w.0.content && accepts over r w.0.rest) w.2.name
+      (and_from (accepts over c w.0.content) (accepts over r w.0.rest) (loose_accepts c w.0.content w.2.ends.1.there w.2.ends.1.meant) (loose_accepts r w.0.rest w.2.ends.0.there w.2.ends.0.meant)))
+
+lead_over : (R Q : State → Document → Type 0) → ((s : State) (d : Document) → R s d → Q s d) → (q : First) (e : Ends) → LeadOver R q e → LeadOver Q q e
+lead_over R Q f q e h = (f e.behind q.behind h.0, inside e.inside h.1)
+  where
+    inside : (o : Option State) → IfSome o (λ s. R s q.inside) → IfSome o (λ s. Q s q.inside)
+    inside None h = h
+    inside (Some s) h = f s q.inside h
 
 -- moves to old points take what they took
 module _ (a b : Automaton) (points more : List PointView) (k : KeepsPoints points more) where
-  kept_there : (s : State) → state_number s < length points → state_number s < length more
-  kept_there s lt = omega (arith, k.longer)
+  kept_meant : (s : State) (d : Document) → MeantAt a b points s d → MeantAt a b more s d
+  kept_meant s d h = record { there = omega (arith, k.longer, h.there); meant = ap (λ (p : PointView). means a b p d) (k.same (state_number s) h.there) ∙ h.meant }
 
-  kept_means : (s : State) (d : Document) → state_number s < length points → means a b (point_at points (state_number s)) d ≡ true → means a b (point_at more (state_number s)) d ≡ true
-  kept_means s d lt m = ap (λ (p : PointView). means a b p d) (k.same (state_number s) lt) ∙ m
+  kept_taking : {M : Type 0} (has : M → List ℕ → Bool) (ends_of : M → Ends) (document : First → Document) (p : PointView) (moves : List M) → AreTaking has ends_of document a b points p moves → AreTaking has ends_of document a b more p moves
+  kept_taking has ends_of document p moves h = λ q m.
+      let w = h q m in (
+        w.0,
+        w.1,
+        record { name = w.2.name; ends = lead_over (MeantAt a b points) (MeantAt a b more) kept_meant q (ends_of w.0) w.2.ends },
+      )
 
-  kept_element : (q : ElementFirst) (w : LabelMove) → TakesElement a b points q w → TakesElement a b more q w
-  kept_element q w t = record {
-    label = t.label;
-    content_there = kept_there w.content t.content_there;
-    rest_there = kept_there w.rest t.rest_there;
-    content = kept_means w.content q.content t.content_there t.content;
-    rest = kept_means w.rest q.rest t.rest_there t.rest;
+  -- so they stay loose
+  pub kept_loose : (p : PointView) (moves : StateMoves) → IsLoose a b points p moves → IsLoose a b more p moves
+  kept_loose p moves h = record {
+    last = h.last;
+    elements = kept_taking has_label label_ends element_first p moves.labels h.elements;
+    texts = kept_taking has_text text_ends text_first p moves.texts h.texts;
   }
-
-  kept_text : (q : TextFirst) (w : TextMove) → TakesText a b points q w → TakesText a b more q w
-  kept_text q w t = record { characters = t.characters; rest_there = kept_there w.rest t.rest_there; rest = kept_means w.rest q.rest t.rest_there t.rest }
-
-  -- a state that keeps its moves stays loose
-  pub kept_loose : (over after : Automaton) (p : PointView) (s : State) → IsLoose a b over points p s → moves_at after s ≡ moves_at over s → IsLoose a b after more p s
-  kept_loose over after p s h same = record {
-    last = λ m. ap (λ (v : StateMoves). v.last) same ∙ h.last m;
-    elements = λ q m. (let w = h.elements q m in (w.0, subst (λ (v : StateMoves). Contains v.labels w.0) (sym same) w.1, kept_element q w.0 w.2));
-    texts = λ q m. (let w = h.texts q m in (w.0, subst (λ (v : StateMoves). Contains v.texts w.0) (sym same) w.1, kept_text q w.0 w.2));
-  }
-
-  pub kept_narrows : (s t added : State) → state_number s < length points → Narrows a b points s t added → Narrows a b more s t added
-  kept_narrows s t added lt n = record {
-    there = kept_there t n.there;
-    meant = λ d. ap (λ (p : PointView). means a b p d) (k.same (state_number t) n.there) ∙ n.meant d ∙ ap (λ (p : PointView). means a b p d && not (accepts b d added)) (sym (k.same (state_number s) lt));
-  }
-
-three_true : (x y z : Bool) → (x && (y && z)) ≡ true → (x ≡ true) × (y ≡ true) × (z ≡ true)
-three_true true true true e = (refl, refl, refl)
-three_true true true false e = absurd (cc)
-three_true true false z e = absurd (cc)
-three_true false y z e = absurd (cc)
 
 -- a state with the moves of a left is loose for this left without any rights
-module _ (a b over : Automaton) (points : List PointView) (left : State) (left_there : IsState a left)
+module _ (a b : Automaton) (points : List PointView) (left : State)
     (closed : LeadsBelow (length a) (moves_at a left)) (lefts : length a ≤ length points) (whole : (s : State) → IsState a s → point_at points (state_number s) ≡ less s []) where
-  whole_means : (s : State) (d : Document) → IsState a s → accepts a d s ≡ true → means a b (point_at points (state_number s)) d ≡ true
-  whole_means s d lt h = ap (λ (p : PointView). means a b p d) (whole s lt) ∙ and_true (accepts a d s) ∙ h
+  whole_meant : (s : State) (d : Document) → IsState a s → accepts a d s ≡ true → MeantAt a b points s d
+  whole_meant s d lt h = record { there = omega (arith, lt, lefts); meant = ap (λ (p : PointView). means a b p d) (whole s lt) ∙ and_true (accepts a d s) ∙ h }
 
-  pub copied_loose : (rights : List State) (s : State) → moves_at over s ≡ copied ((moves_at a left).last && not (list_any (is_last_in b) rights)) (moves_at a left) → IsLoose a b over points (less left rights) s
-  copied_loose rights s is = record {
-    last = λ m. ap (λ (v : StateMoves). v.last) is ∙ m;
-    elements = λ q m.
-        let taken = (both_true (accepts a (element_of q) left) (any_accepts b rights (element_of q)) m).0 in
-        let t = Any-from_list_any (move_takes a q) (moves_at a left).labels taken in
-        let parts = three_true (class_has t.1.class q.label) (accepts a q.content t.1.content) (accepts a q.rest t.1.rest) t.4 in
-        let below = All-contains (λ (w : LabelMove). (state_number w.content < length a) × (state_number w.rest < length a)) (moves_at a left).labels t.1 closed.labels (t.0, t.2, t.3) in (
-          t.1,
-          subst (λ (v : StateMoves). Contains v.labels t.1) (sym is) (t.0, t.2, t.3),
-          record {
-            label = parts.0;
-            content_there = omega (arith, below.0, lefts);
-            rest_there = omega (arith, below.1, lefts);
-            content = whole_means t.1.content q.content below.0 parts.1;
-            rest = whole_means t.1.rest q.rest below.1 parts.2;
-          },
-        );
-    texts = λ q m.
-        let taken = (both_true (accepts a (text_of q) left) (any_accepts b rights (text_of q)) m).0 in
-        let t = Any-from_list_any (text_takes a q) (moves_at a left).texts taken in
-        let parts = and_parts (class_has t.1.words q.characters) (accepts a q.rest t.1.rest) t.4 in
-        let below = All-contains (λ (w : TextMove). state_number w.rest < length a) (moves_at a left).texts t.1 closed.texts (t.0, t.2, t.3) in (
-          t.1,
-          subst (λ (v : StateMoves). Contains v.texts t.1) (sym is) (t.0, t.2, t.3),
-          record { characters = parts.0; rest_there = omega (arith, below, lefts); rest = whole_means t.1.rest q.rest below parts.1 },
-        );
+  ends_meant : (q : First) (e : Ends) → EndsBelow (length a) e → ends_accept a q e ≡ true → LeadOver (MeantAt a b points) q e
+  ends_meant q e below h = let both = and_parts (inside_accepts a q.inside e.inside) (accepts a q.behind e.behind) h in (whole_meant e.behind q.behind below.0 both.1, inside e.inside below.1 both.0)
+    where
+      inside : (o : Option State) → IfSome o (IsState a) → inside_accepts a q.inside o ≡ true → IfSome o (λ s. MeantAt a b points s q.inside)
+      inside None lt h = tt
+      inside (Some s) lt h = whole_meant s q.inside lt h
+
+  copied_taking : {M : Type 0} {has : M → List ℕ → Bool} {ends_of : M → Ends} {moves_in : StateMoves → List M} {exchanged : StateMoves → List M → StateMoves} {document : First → Document} → IsKind has ends_of moves_in exchanged document
+      → AreBelow ends_of (length a) (moves_in (moves_at a left)) → (rights : List State) → AreTaking has ends_of document a b points (less left rights) (moves_in (moves_at a left))
+  copied_taking {M} {has} {ends_of} {moves_in} {exchanged} {document} kind below rights = λ q m.
+      let moves = moves_in (moves_at a left) in
+      let taken = (both_true (accepts a (document q) left) (any_accepts b rights (document q)) m).0 in
+      let t = Any-from_list_any (λ (v : M). has v q.name && ends_accept a q (ends_of v)) moves (sym (kind.accepted a q left) ∙ taken) in
+      let parts = and_parts (has t.1 q.name) (ends_accept a q (ends_of t.1)) t.4 in (
+        t.1,
+        (t.0, t.2, t.3),
+        record { name = parts.0; ends = ends_meant q (ends_of t.1) (All-contains (λ v. EndsBelow (length a) (ends_of v)) moves t.1 below (t.0, t.2, t.3)) parts.1 },
+      )
+
+  pub copied_loose : (rights : List State) → IsLoose a b points (less left rights) (copied ((moves_at a left).last && not (list_any (is_last_in b) rights)) (moves_at a left))
+  copied_loose rights = record {
+    last = λ m. m;
+    elements = copied_taking label_kind (λ i m there. (let both = closed.labels i m there in (both.1, both.0))) rights;
+    texts = copied_taking text_kind (λ i m there. (closed.texts i m there, tt)) rights;
   }
 
-three : (x y z : Bool) → (x && (y && z)) ≡ false → x ≡ true → (y ≡ false) ⊎ (z ≡ false)
-three true true true e h = absurd (cc)
-three true true false e h = inr refl
-three true false z e h = inl refl
-three false y z e h = absurd (cc)
+sides : (x y : Bool) → (x && y) ≡ false → (x ≡ false) ⊎ (y ≡ false)
+sides true y e = inr e
+sides false y e = inl refl
 
 two : (x y : Bool) → (x && y) ≡ false → x ≡ true → y ≡ false
 two true y e h = e
 two false y e h = absurd (cc)
 
--- an element that the point means is refused by each move of each right: by its content state, or
--- by its rest state
-refused_on_a_side : (a b : Automaton) (p : PointView) (q : ElementFirst) (r : State) (m : LabelMove) → means a b p (element_of q) ≡ true → Contains p.rights r → Contains (moves_at b r).labels m → class_has m.class q.label ≡ true
-    → (accepts b q.content m.content ≡ false) ⊎ (accepts b q.rest m.rest ≡ false)
-refused_on_a_side a b p q r m meant right move has =
-    let none : any_accepts b p.rights (element_of q) ≡ false = (both_true (accepts a (element_of q) p.left) (any_accepts b p.rights (element_of q)) meant).1 in
-    let refuses = none_at (λ s. accepts b (element_of q) s) p.rights r right none in
-    three (class_has m.class q.label) (accepts b q.content m.content) (accepts b q.rest m.rest) (none_at (move_takes b q) (moves_at b r).labels m move refuses) has
+narrowed : (a b : Automaton) (points : List PointView) (s t added : State) (d : Document) → Narrows a b points s t added → MeantAt a b points s d → accepts b d added ≡ false → MeantAt a b points t d
+narrowed a b points s t added d n m refused = record { there = n.there; meant = n.meant d ∙ rw (m.meant, refused) refl }
 
-refused_behind : (a b : Automaton) (p : PointView) (q : TextFirst) (r : State) (m : TextMove) → means a b p (text_of q) ≡ true → Contains p.rights r → Contains (moves_at b r).texts m → class_has m.words q.characters ≡ true
-    → accepts b q.rest m.rest ≡ false
-refused_behind a b p q r m meant right move has =
-    let none : any_accepts b p.rights (text_of q) ≡ false = (both_true (accepts a (text_of q) p.left) (any_accepts b p.rights (text_of q)) meant).1 in
-    let refuses = none_at (λ s. accepts b (text_of q) s) p.rights r right none in
-    two (class_has m.words q.characters) (accepts b q.rest m.rest) (none_at (text_takes b q) (moves_at b r).texts m move refuses) has
-
-narrowed : (a b : Automaton) (points : List PointView) (s t added : State) (d : Document) → Narrows a b points s t added → means a b (point_at points (state_number s)) d ≡ true → accepts b d added ≡ false → means a b (point_at points (state_number t)) d ≡ true
-narrowed a b points s t added d n m refused = n.meant d ∙ rw (m, refused) refl
-
--- an element that goes to these states, by a move to them
-taken_by : (a b : Automaton) (points : List PointView) (labels : List LabelMove) (q : ElementFirst) (content rest : State) → HasMove labels q.label content rest → state_number content < length points → state_number rest < length points
-    → means a b (point_at points (state_number content)) q.content ≡ true → means a b (point_at points (state_number rest)) q.rest ≡ true → (v : LabelMove) × Contains labels v × TakesElement a b points q v
-taken_by a b points labels q content rest h content_there rest_there content_meant rest_meant = (
-  h.move,
-  h.among,
-  record {
-    label = h.label;
-    content_there = subst (λ (s : State). state_number s < length points) (sym h.content_is) content_there;
-    rest_there = subst (λ (s : State). state_number s < length points) (sym h.rest_is) rest_there;
-    content = subst (λ (s : State). means a b (point_at points (state_number s)) q.content ≡ true) (sym h.content_is) content_meant;
-    rest = subst (λ (s : State). means a b (point_at points (state_number s)) q.rest ≡ true) (sym h.rest_is) rest_meant;
-  },
-)
-
-text_taken_by : (a b : Automaton) (points : List PointView) (texts : List TextMove) (q : TextFirst) (rest : State) → HasTextMove texts q.characters rest → state_number rest < length points
-    → means a b (point_at points (state_number rest)) q.rest ≡ true → (v : TextMove) × Contains texts v × TakesText a b points q v
-text_taken_by a b points texts q rest h rest_there rest_meant = (
-  h.move,
-  h.among,
-  record {
-    characters = h.characters;
-    rest_there = subst (λ (s : State). state_number s < length points) (sym h.rest_is) rest_there;
-    rest = subst (λ (s : State). means a b (point_at points (state_number s)) q.rest ≡ true) (sym h.rest_is) rest_meant;
-  },
-)
+narrowed_inside : (a b : Automaton) (points : List PointView) (inside by added : Option State) (d : Document) → NarrowsInside a b points inside by added → IsLikeInside inside added → IfSome inside (λ s. MeantAt a b points s d) → inside_accepts b d added ≡ false
+    → (t : State) × (by ≡ Some t) × MeantAt a b points t d
+narrowed_inside a b points (Some s) by (Some r) d n alike m refused = (n.0, n.1, narrowed a b points s n.0 r d n.2 m refused)
+narrowed_inside a b points (Some s) by None d n alike m refused = absurd (cc)
+narrowed_inside a b points None by None d n alike m refused = absurd (cc)
+narrowed_inside a b points None by (Some r) d n alike m refused = absurd alike
 
 -- the law of division: what a point means and a move took, one of the moves that divide it takes
-module _ (a b : Automaton) (points : List PointView) (p : PointView) (r : State) (labels divided : List LabelMove) (w m : LabelMove) (by_content by_rest : State)
-    (right : Contains p.rights r) (move : Contains (moves_at b r).labels m) (h : DividesLabels w m by_content by_rest labels divided)
-    (content_narrows : Narrows a b points w.content by_content m.content) (rest_narrows : Narrows a b points w.rest by_rest m.rest) where
-  divided_takes : (q : ElementFirst) → means a b p (element_of q) ≡ true → TakesElement a b points q w → (v : LabelMove) × Contains divided v × TakesElement a b points q v
-  divided_takes q meant t = go (class_has m.class q.label) refl
-    where
-      sides : class_has m.class q.label ≡ true → (accepts b q.content m.content ≡ false) ⊎ (accepts b q.rest m.rest ≡ false) → (v : LabelMove) × Contains divided v × TakesElement a b points q v
-      sides has (inl refused) =
-          taken_by a b points divided q by_content w.rest (h.content_side q.label t.label has) content_narrows.there t.rest_there
-          (narrowed a b points w.content by_content m.content q.content content_narrows t.content refused) t.rest
-      sides has (inr refused) =
-          taken_by a b points divided q w.content by_rest (h.rest_side q.label t.label has) t.content_there rest_narrows.there t.content
-          (narrowed a b points w.rest by_rest m.rest q.rest rest_narrows t.rest refused)
+module _ {M : Type 0} {has : M → List ℕ → Bool} {ends_of : M → Ends} {moves_in : StateMoves → List M} {exchanged : StateMoves → List M → StateMoves} {document : First → Document} (kind : IsKind has ends_of moves_in exchanged document)
+    (a b : Automaton) (points : List PointView) (p : PointView) (r : State) (moves : StateMoves) (divided : List M) (w m : M) (by : Ends)
+    (right : Contains p.rights r) (move : Contains (moves_in (moves_at b r)) m) (h : Divides has ends_of w m by (moves_in moves) divided) (narrows : NarrowsEnds a b points (ends_of w) by (ends_of m)) where
+  -- what the point means is refused by each move of each right: inside, or behind
+  refused : (q : First) → means a b p (document q) ≡ true → has m q.name ≡ true → ends_accept b q (ends_of m) ≡ false
+  refused q meant named =
+      let none : any_accepts b p.rights (document q) ≡ false = (both_true (accepts a (document q) p.left) (any_accepts b p.rights (document q)) meant).1 in
+      let refuses = none_at (λ s. accepts b (document q) s) p.rights r right none in
+      two (has m q.name) (ends_accept b q (ends_of m)) (none_at (λ (v : M). has v q.name && ends_accept b q (ends_of v)) (moves_in (moves_at b r)) m move (sym (kind.accepted b q r) ∙ refuses)) named
 
-      go : (has : Bool) → class_has m.class q.label ≡ has → (v : LabelMove) × Contains divided v × TakesElement a b points q v
-      go true e = sides e (refused_on_a_side a b p q r m meant right move e)
-      go false e = taken_by a b points divided q w.content w.rest (h.outside q.label t.label e) t.content_there t.rest_there t.content t.rest
+  taken_by : (q : First) (e : Ends) → HasMove has ends_of divided q.name e → LeadOver (MeantAt a b points) q e → (v : M) × Contains divided v × Takes has ends_of a b points q v
+  taken_by q e h over = (h.move, h.among, record { name = h.named; ends = subst (LeadOver (MeantAt a b points) q) (sym h.ends) over })
 
-  pub divided_loose : (over after : Automaton) (s : State) → IsLoose a b over points p s → (moves_at over s).labels ≡ labels → moves_at after s ≡ record (moves_at over s) { labels = divided } → IsLoose a b after points p s
-  divided_loose over after s loose is same = record {
-    last = λ m. ap (λ (v : StateMoves). v.last) same ∙ loose.last m;
-    elements = λ q meant. (let t = loose.elements q meant in subst (λ (v : StateMoves). (x : LabelMove) × Contains v.labels x × TakesElement a b points q x) (sym same)
-        (again q meant t.0 t.2 (h.others t.0 (subst (λ (xs : List LabelMove). Contains xs t.0) is t.1))));
-    texts = λ q meant. (let t = loose.texts q meant in (t.0, subst (λ (v : StateMoves). Contains v.texts t.0) (sym same) t.1, t.2));
-  }
+  divided_takes : (q : First) → means a b p (document q) ≡ true → Takes has ends_of a b points q w → (v : M) × Contains divided v × Takes has ends_of a b points q v
+  divided_takes q meant t = go (has m q.name) refl
     where
-      again : (q : ElementFirst) → means a b p (element_of q) ≡ true → (v : LabelMove) → TakesElement a b points q v → Contains divided v ⊎ (v ≡ w) → (x : LabelMove) × Contains divided x × TakesElement a b points q x
+      in_place_meant : (s : State) (o : Option State) → MeantAt a b points s q.inside → IfSome (in_place s o) (λ u. MeantAt a b points u q.inside)
+      in_place_meant s None k = tt
+      in_place_meant s (Some u) k = k
+
+      on_a_side : in_both has w m q.name ≡ true → (inside_accepts b q.inside (ends_of m).inside ≡ false) ⊎ (accepts b q.behind (ends_of m).behind ≡ false) → (v : M) × Contains divided v × Takes has ends_of a b points q v
+      on_a_side both (inl off) =
+          let n = narrowed_inside a b points (ends_of w).inside by.inside (ends_of m).inside q.inside narrows.inside (kind.alike w m) t.ends.1 off in
+          let side = subst (λ o. IfSome o (λ s. (name : List ℕ) → in_both has w m name ≡ true → HasMove has ends_of divided name (inside_to s (ends_of w)))) n.1 h.inside in
+          taken_by q (inside_to n.0 (ends_of w)) (side q.name both) (t.ends.0, in_place_meant n.0 (ends_of w).inside n.2)
+      on_a_side both (inr off) = taken_by q (behind_to by.behind (ends_of w)) (h.behind q.name both) (narrowed a b points (ends_of w).behind by.behind (ends_of m).behind q.behind narrows.behind t.ends.0 off, t.ends.1)
+
+      go : (named : Bool) → has m q.name ≡ named → (v : M) × Contains divided v × Takes has ends_of a b points q v
+      go true e = on_a_side (and_from (has w q.name) (has m q.name) t.name e) (sides (inside_accepts b q.inside (ends_of m).inside) (accepts b q.behind (ends_of m).behind) (refused q meant e))
+      go false e = taken_by q (ends_of w) (h.outside q.name (rw (t.name, e) refl)) t.ends
+
+  pub divided_loose : IsLoose a b points p moves → IsLoose a b points p (exchanged moves divided)
+  divided_loose loose = kind.loose a b points p moves divided loose (λ q meant. let t = kind.taking a b points p moves loose q meant in again q meant t.0 t.2 (h.others t.0 t.1))
+    where
+      again : (q : First) → means a b p (document q) ≡ true → (v : M) → Takes has ends_of a b points q v → Contains divided v ⊎ (v ≡ w) → (x : M) × Contains divided x × Takes has ends_of a b points q x
       again q meant v t (inl c) = (v, c, t)
-      again q meant v t (inr e) = divided_takes q meant (subst (λ (x : LabelMove). TakesElement a b points q x) e t)
-
--- the same of texts
-module _ (a b : Automaton) (points : List PointView) (p : PointView) (r : State) (texts divided : List TextMove) (w m : TextMove) (by_rest : State)
-    (right : Contains p.rights r) (move : Contains (moves_at b r).texts m) (h : DividesTexts w m by_rest texts divided) (rest_narrows : Narrows a b points w.rest by_rest m.rest) where
-  divided_takes_text : (q : TextFirst) → means a b p (text_of q) ≡ true → TakesText a b points q w → (v : TextMove) × Contains divided v × TakesText a b points q v
-  divided_takes_text q meant t = go (class_has m.words q.characters) refl
-    where
-      go : (has : Bool) → class_has m.words q.characters ≡ has → (v : TextMove) × Contains divided v × TakesText a b points q v
-      go true e =
-          text_taken_by a b points divided q by_rest (h.rest_side q.characters t.characters e) rest_narrows.there
-          (narrowed a b points w.rest by_rest m.rest q.rest rest_narrows t.rest (refused_behind a b p q r m meant right move e))
-      go false e = text_taken_by a b points divided q w.rest (h.outside q.characters t.characters e) t.rest_there t.rest
-
-  pub divided_loose_text : (over after : Automaton) (s : State) → IsLoose a b over points p s → (moves_at over s).texts ≡ texts → moves_at after s ≡ record (moves_at over s) { texts = divided } → IsLoose a b after points p s
-  divided_loose_text over after s loose is same = record {
-    last = λ m. ap (λ (v : StateMoves). v.last) same ∙ loose.last m;
-    elements = λ q meant. (let t = loose.elements q meant in (t.0, subst (λ (v : StateMoves). Contains v.labels t.0) (sym same) t.1, t.2));
-    texts = λ q meant. (let t = loose.texts q meant in subst (λ (v : StateMoves). (x : TextMove) × Contains v.texts x × TakesText a b points q x) (sym same)
-        (again q meant t.0 t.2 (h.others t.0 (subst (λ (xs : List TextMove). Contains xs t.0) is t.1))));
-  }
-    where
-      again : (q : TextFirst) → means a b p (text_of q) ≡ true → (v : TextMove) → TakesText a b points q v → Contains divided v ⊎ (v ≡ w) → (x : TextMove) × Contains divided x × TakesText a b points q x
-      again q meant v t (inl c) = (v, c, t)
-      again q meant v t (inr e) = divided_takes_text q meant (subst (λ (x : TextMove). TakesText a b points q x) e t)
+      again q meant v t (inr e) = divided_takes q meant (subst (Takes has ends_of a b points q) e t)
 
 -- a point was added, with a state that has the moves of its left
 module _ (a b over after : Automaton) (points more : List PointView) (left : State) (rights : List State) (h : Loosens a b over points) (left_there : IsState a left) (rights_there : AllByRecursion (IsState b) rights)
@@ -247,7 +177,7 @@ module _ (a b over after : Automaton) (points more : List PointView) (left : Sta
   added_moves i lt = at_front over after (copied ((moves_at a left).last && not (list_any (is_last_in b) rights)) (moves_at a left)) (no_moves false) i state_added (omega (arith, h.count))
 
   added_own : (s : State) → IsState a s → moves_at after s ≡ moves_at a s
-  added_own s lt = subst (λ t. moves_at after t ≡ moves_at over t) (same_state (state_at (state_number s)) s refl) (added_moves (state_number s) (omega (arith, h.lefts))) ∙ h.own s lt
+  added_own s lt = added_moves (state_number s) (omega (arith, h.lefts)) ∙ h.own s lt
 
   added_whole : (s : State) → IsState a s → point_at more (state_number s) ≡ less s []
   added_whole s lt = added_points.same (state_number s) (omega (arith, h.lefts)) ∙ h.whole s lt
@@ -271,15 +201,13 @@ module _ (a b over after : Automaton) (points more : List PointView) (left : Sta
       | inr new ↦ subst (IsPointOf a b) (sym (at_end points more (less left rights) no_point i point_added new)) (record { left = left_there; rights = rights_there })
     ];
     loose = λ i lt. elim (place_cases points more (less left rights) i point_added lt) [
-      | inl old ↦ subst (λ p. IsLoose a b after more p (state_at i)) (sym (added_points.same i old)) (kept_loose a b points more added_points over after (point_at points i) (state_at i) (h.loose i old) (added_moves i old))
-      | inr new ↦ subst (λ p. IsLoose a b after more p (state_at i)) (sym (at_end points more (less left rights) no_point i point_added new))
-          (copied_loose a b after more left left_there (h.closed left left_there) (omega (arith, h.lefts, added_points.longer)) added_whole rights (state_at i)
-          (at_end over after (copied ((moves_at a left).last && not (list_any (is_last_in b) rights)) (moves_at a left)) (no_moves false) i state_added (omega (arith, new, h.count))))
+      | inl old ↦ subst (λ p. IsLoose a b more p (moves_at after (state_at i))) (sym (added_points.same i old))
+          (subst (IsLoose a b more (point_at points i)) (sym (added_moves i old)) (kept_loose a b points more added_points (point_at points i) (moves_at over (state_at i)) (h.loose i old)))
+      | inr new ↦ subst (λ p. IsLoose a b more p (moves_at after (state_at i))) (sym (at_end points more (less left rights) no_point i point_added new))
+          (subst (IsLoose a b more (less left rights)) (sym (at_end over after (copied ((moves_at a left).last && not (list_any (is_last_in b) rights)) (moves_at a left)) (no_moves false) i state_added (omega (arith, new, h.count))))
+          (copied_loose a b more left (h.closed left left_there) (omega (arith, h.lefts, added_points.longer)) added_whole rights))
     ];
   }
-
-keeps_same : (points : List PointView) → KeepsPoints points points
-keeps_same points = record { longer = omega arith; same = λ i lt. refl }
 
 -- the moves of one state, which is none of the lefts, were exchanged
 module _ (a b over after : Automaton) (points : List PointView) (s : State) (moves : StateMoves) (h : Loosens a b over points) (new : length a ≤ state_number s) (there : state_number s < length points)
@@ -287,19 +215,19 @@ module _ (a b over after : Automaton) (points : List PointView) (s : State) (mov
   exchanged_same : (i : ℕ) → (i ≡ state_number s → ⊥) → moves_at after (state_at i) ≡ moves_at over (state_at i)
   exchanged_same i ne = ap (λ (v : Automaton). moves_at v (state_at i)) is ∙ get_or-set_other over (state_number s) i moves (no_moves false) ne
 
-  pub exchanged_at : moves_at after s ≡ moves
+  exchanged_at : moves_at after s ≡ moves
   exchanged_at = ap (λ (v : Automaton). moves_at v s) is ∙ get_or-set_same over (state_number s) moves (no_moves false) (omega (arith, h.count, there))
 
-  pub exchanged_loosens : IsLoose a b after points (point_at points (state_number s)) s → Loosens a b after points
+  pub exchanged_loosens : IsLoose a b points (point_at points (state_number s)) moves → Loosens a b after points
   exchanged_loosens loose = record {
     count = ap length is ∙ length-set over (state_number s) moves ∙ h.count;
     lefts = h.lefts;
     closed = h.closed;
-    own = λ t lt. subst (λ u. moves_at after u ≡ moves_at over u) (same_state (state_at (state_number t)) t refl) (exchanged_same (state_number t) (λ e. absurd (omega (arith, e, lt, new)))) ∙ h.own t lt;
+    own = λ t lt. exchanged_same (state_number t) (λ e. absurd (omega (arith, e, lt, new))) ∙ h.own t lt;
     whole = h.whole;
     there = h.there;
     loose = λ i lt. elim (cases_eq i (state_number s)) [
-      | inl e ↦ subst (λ j. IsLoose a b after points (point_at points j) (state_at j)) (sym e) (subst (λ t. IsLoose a b after points (point_at points (state_number s)) t) (same_state s (state_at (state_number s)) refl) loose)
-      | inr ne ↦ kept_loose a b points points (keeps_same points) over after (point_at points i) (state_at i) (h.loose i lt) (exchanged_same i ne)
+      | inl e ↦ subst (λ j. IsLoose a b points (point_at points j) (moves_at after (state_at j))) (sym e) (subst (IsLoose a b points (point_at points (state_number s))) (sym exchanged_at) loose)
+      | inr ne ↦ subst (IsLoose a b points (point_at points i)) (sym (exchanged_same i ne)) (h.loose i lt)
     ];
   }

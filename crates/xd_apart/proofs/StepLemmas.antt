@@ -1,28 +1,27 @@
 -- How loose automata begin, get points, and are divided.
-use Rattle.std.proofs.Common.{◌≡◌, ℕ, ◌<◌, ◌≤◌, Bool, true, false, ◌&&◌, inl, inr, List, [], ◌∷◌, ◌++◌, get_or, length, length-append, take, refl, ap, sym, subst, ◌∙◌, arith}
-use Rattle.std.specs.Prelude.{not, Some, slice_index_or}
-use Rattle.std.specs.List.{All, AllByRecursion, Contains, list_any}
+use Rattle.std.proofs.Common.{◌≡◌, ℕ, ◌<◌, ◌≤◌, Bool, true, false, ◌&&◌, inl, inr, Some, List, [], ◌∷◌, ◌++◌, get_or, length, length-append, take, refl, ap, sym, subst, ◌∙◌, arith}
+use Rattle.std.specs.Prelude.{not}
+use Rattle.std.specs.List.{AllByRecursion, Contains, list_any}
 use Rattle.std.proofs.lemmas.Bool.{cases_lt}
-use Rattle.std.proofs.lemmas.List.Elements.{All-get_or}
 use Rattle.std.proofs.lemmas.List.{get_or_default, length-set, length-take-le, take-append-le, take-set-le}
 use Rattle.std.specs.HashMap.{HashMap}
 use Rattle.std.specs.Cmp.Lexicographic.{pointwise}
 use Rattle.std.specs.Prelude.{cond, nat_eq}
 use Rattle.std.proofs.lemmas.Slice.Eq.{bytes_eq-Decides}
 use Rattle.xd_doc.proofs.Bools.{and_with_true, and_not_or}
+use Rattle.xd_doc.specs.Document.{Document}
 use Rattle.xd_auto.specs.declared.auto.State.{State}
-use Rattle.xd_auto.specs.declared.auto.LabelMove.{LabelMove}
-use Rattle.xd_auto.specs.declared.auto.TextMove.{TextMove}
+use Rattle.xd_auto.specs.declared.leading.Ends.{Ends}
 use Rattle.xd_auto.specs.Automaton.{Automaton, IsClosed, IsState, StateMoves, accepts, moves_at, state_number, with_moves}
-use Rattle.xd_auto.proofs.Closed.{moves_at-closed, same_state}
+use Rattle.xd_auto.proofs.Closed.{moves_at-closed}
 use Rattle.xd_boole.specs.Meaning.{PointView, any_accepts, is_last_in, less, means, with_states}
 use Rattle.xd_auto.specs.Keys.{found_at}
-use Rattle.xd_boole.specs.Points.{IsPointOf, MoveBelow, no_point, point_at, point_key, state_at}
+use Rattle.xd_boole.specs.Points.{IsPointOf, no_point, point_at, point_key, state_at}
 use Rattle.xd_boole.proofs.ArePointsLemmas.{at_end, same_point}
 use Rattle.xd_boole.proofs.AnyAcceptsLemmas.{set_accepts, with_states_all, any_accepts_push}
 use Rattle.xd_apart.specs.declared.loose.Loose.{Loose}
-use Rattle.xd_apart.specs.Loose.{Grows, IsLoose, IsLooseOver, IsRightMove, IsRightText, KeepsPoints, Loosens, Narrows, ReplacesLabel, ReplacesText, StandsFor, copied, left_states}
-use Rattle.xd_apart.proofs.LooseLemmas.{added_loosens, added_points, copied_loose, divided_loose, divided_loose_text, exchanged_at, exchanged_loosens, kept_narrows}
+use Rattle.xd_apart.specs.Loose.{Divides, First, Grows, IsCloser, IsKind, IsLoose, IsLooseOver, KeepsPoints, Loosens, Narrows, NarrowsEnds, StandsFor, copied, left_states}
+use Rattle.xd_apart.proofs.LooseLemmas.{added_loosens, added_points, copied_loose, divided_loose, exchanged_loosens}
 
 with_no_rights : (moves : StateMoves) → moves ≡ copied (moves.last && true) moves
 with_no_rights moves = ap (λ (last : Bool). copied last moves) (and_with_true moves.last)
@@ -30,7 +29,7 @@ with_no_rights moves = ap (λ (last : Bool). copied last moves) (and_with_true m
 -- an automaton over itself
 module _ (a b : Automaton) (points : List PointView) (closed : IsClosed a) (count : length points ≡ length a) (each : (i : ℕ) → i < length a → point_at points i ≡ less (state_at i) []) where
   start_whole : (s : State) → IsState a s → point_at points (state_number s) ≡ less s []
-  start_whole s lt = each (state_number s) lt ∙ ap (λ (t : State). less t []) (same_state (state_at (state_number s)) s refl)
+  start_whole s lt = each (state_number s) lt
 
   pub start_loosens : Loosens a b a points
   start_loosens = record {
@@ -42,8 +41,8 @@ module _ (a b : Automaton) (points : List PointView) (closed : IsClosed a) (coun
     there = λ i lt. subst (IsPointOf a b) (sym (each i (omega (arith, lt, count)))) (record { left = omega (arith, lt, count); rights = tt });
     loose = λ i lt.
         let there : IsState a (state_at i) = omega (arith, lt, count) in
-        subst (λ p. IsLoose a b a points p (state_at i)) (sym (each i (omega (arith, lt, count))))
-        (copied_loose a b a points (state_at i) there (moves_at-closed a (state_at i) closed there) (omega (arith, count)) start_whole [] (state_at i) (with_no_rights (moves_at a (state_at i))));
+        subst (λ p. IsLoose a b points p (moves_at a (state_at i))) (sym (each i there))
+        (subst (IsLoose a b points (less (state_at i) [])) (sym (with_no_rights (moves_at a (state_at i)))) (copied_loose a b points (state_at i) (moves_at-closed a (state_at i) closed there) (omega (arith, count)) start_whole []));
   }
 
 -- an empty map leads nowhere
@@ -74,9 +73,6 @@ point_is points i n p e lt at = at ∙ ap (λ (k : ℕ). get_or points k p) e �
 
 pub left_count : (l : Loose) → l.lefts ≤ length l.over → length (left_states l) ≡ l.lefts
 left_count l within = length-take-le l.lefts l.over within
-
-pub left_there : (b : Automaton) (l : Loose) (s : State) → IsLooseOver b l → IsState (left_states l) s → IsState l.over s
-left_there b l s h lt = omega (arith, lt, h.within, left_count l h.within)
 
 -- a point was added, with a state that has the moves of its left
 module _ (b : Automaton) (l m : Loose) (left : State) (rights : List State) (number : ℕ) (h : IsLooseOver b l) (there : IsState (left_states l) left) (rights_there : AllByRecursion (IsState b) rights) (lefts : m.lefts ≡ l.lefts)
@@ -121,28 +117,6 @@ all_more P (t ∷ ts) s h k = (h.0, all_more P ts s h.1 k)
 pub more_rights_there : (P : State → Type 0) (states : List State) (s : State) → AllByRecursion P states → P s → AllByRecursion P (with_states (states ++ s ∷ []) [])
 more_rights_there P states s h k = with_states_all P (states ++ s ∷ []) [] (all_more P states s h k) tt
 
--- a move of a state was divided
-module _ (a b over after : Automaton) (points : List PointView) (s : State) (number : ℕ) (h : Loosens a b over points) (there : state_number s < length points) where
-  pub label_divided : (w m : LabelMove) (by_content by_rest : State) → IsRightMove b points s m → slice_index_or (moves_at over s).labels number w ≡ w → Narrows a b points w.content by_content m.content → Narrows a b points w.rest by_rest m.rest
-      → ReplacesLabel over after s number m by_content by_rest → Loosens a b after points
-  label_divided w m by_content by_rest right at content_narrows rest_narrows r =
-      let moves : StateMoves = record (moves_at over s) { labels = r.divided } in
-      let new = right_is_new a b over points s right.right h right.among in
-      let loose = subst (λ t. IsLoose a b over points (point_at points (state_number s)) t) (same_state (state_at (state_number s)) s refl) (h.loose (state_number s) there) in
-      exchanged_loosens a b over after points s moves h new there r.is
-      (divided_loose a b points (point_at points (state_number s)) right.right (moves_at over s).labels r.divided w m by_content by_rest right.among right.move (r.divides w at) content_narrows rest_narrows
-      over after s loose refl (exchanged_at a b over after points s moves h new there r.is))
-
-  pub text_divided : (w m : TextMove) (by_rest : State) → IsRightText b points s m → slice_index_or (moves_at over s).texts number w ≡ w → Narrows a b points w.rest by_rest m.rest
-      → ReplacesText over after s number m by_rest → Loosens a b after points
-  text_divided w m by_rest right at rest_narrows r =
-      let moves : StateMoves = record (moves_at over s) { texts = r.divided } in
-      let new = right_is_new a b over points s right.right h right.among in
-      let loose = subst (λ t. IsLoose a b over points (point_at points (state_number s)) t) (same_state (state_at (state_number s)) s refl) (h.loose (state_number s) there) in
-      exchanged_loosens a b over after points s moves h new there r.is
-      (divided_loose_text a b points (point_at points (state_number s)) right.right (moves_at over s).texts r.divided w m by_rest right.among right.move (r.divides w at) rest_narrows
-      over after s loose refl (exchanged_at a b over after points s moves h new there r.is))
-
 -- the lefts stay where a later state is exchanged
 pub lefts_stay : (b : Automaton) (l : Loose) (after : Automaton) (s : State) (moves : StateMoves) → IsLooseOver b l → length (left_states l) ≤ state_number s → after ≡ with_moves l.over s moves → take l.lefts after ≡ left_states l
 lefts_stay b l after s moves h new is = ap (take l.lefts) is ∙ take-set-le l.lefts l.over (state_number s) moves (omega (arith, new, left_count l h.within))
@@ -155,73 +129,30 @@ over_exchanged b l after s moves h new is loosens = record {
   only = h.only;
 }
 
--- a move of a right is one where more points are, too
-right_kept : (b : Automaton) (points more : List PointView) (s : State) (m : LabelMove) → KeepsPoints points more → state_number s < length points → IsRightMove b points s m → IsRightMove b more s m
-right_kept b points more s m k lt r = record { right = r.right; among = subst (λ (p : PointView). Contains p.rights r.right) (sym (k.same (state_number s) lt)) r.among; move = r.move }
-
-text_kept : (b : Automaton) (points more : List PointView) (s : State) (m : TextMove) → KeepsPoints points more → state_number s < length points → IsRightText b points s m → IsRightText b more s m
-text_kept b points more s m k lt r = record { right = r.right; among = subst (λ (p : PointView). Contains p.rights r.right) (sym (k.same (state_number s) lt)) r.among; move = r.move }
-
-moves_kept : (l m : Loose) (s : State) → Grows l m → state_number s < length l.points.items → moves_at m.over s ≡ moves_at l.over s
-moves_kept l m s g lt = subst (λ (t : State). moves_at m.over t ≡ moves_at l.over t) (same_state (state_at (state_number s)) s refl) (g.moves (state_number s) lt)
-
--- an element's move is divided, after the points that its parts lead to
-module _ (b : Automaton) (first second third : Loose) (after : Automaton) (s : State) (number : ℕ) (w m : LabelMove) (by_content by_rest : State) (h : IsLooseOver b third) (one : Grows first second) (two : Grows second third) (there : state_number s < length first.points.items)
-    (below : MoveBelow (length first.points.items) w) (right : IsRightMove b first.points.items s m) (at : w ≡ get_or (moves_at first.over s).labels number w)
-    (content_narrows : Narrows (left_states first) b second.points.items w.content by_content m.content) (rest_narrows : Narrows (left_states second) b third.points.items w.rest by_rest m.rest) (r : ReplacesLabel third.over after s number m by_content by_rest) where
-  there_third : state_number s < length third.points.items
-  there_third = omega (arith, there, one.points.longer, two.points.longer)
-
-  right_third : IsRightMove b third.points.items s m
-  right_third =
-      right_kept b second.points.items third.points.items s m two.points (omega (arith, there, one.points.longer)) (right_kept b first.points.items second.points.items s m one.points there right)
-
-  same_moves : moves_at third.over s ≡ moves_at first.over s
-  same_moves = moves_kept second third s two (omega (arith, there, one.points.longer)) ∙ moves_kept first second s one there
-
-  at_third : get_or (moves_at third.over s).labels number w ≡ w
-  at_third = ap (λ (v : StateMoves). get_or v.labels number w) same_moves ∙ sym at
-
-  content_third : Narrows (left_states third) b third.points.items w.content by_content m.content
-  content_third =
-      kept_narrows (left_states third) b second.points.items third.points.items two.points w.content by_content m.content (omega (arith, below.0, one.points.longer))
-      (subst (λ (a : Automaton). Narrows a b second.points.items w.content by_content m.content) (sym (two.lefts ∙ one.lefts)) content_narrows)
-
-  rest_third : Narrows (left_states third) b third.points.items w.rest by_rest m.rest
-  rest_third = subst (λ (a : Automaton). Narrows a b third.points.items w.rest by_rest m.rest) (sym two.lefts) rest_narrows
-
-  third_new : length (left_states third) ≤ state_number s
-  third_new = right_is_new (left_states third) b third.over third.points.items s right_third.right h.loosens right_third.among
-
-  pub divided_over : IsLooseOver b (record third { over = after })
-  divided_over =
-      over_exchanged b third after s (record (moves_at third.over s) { labels = r.divided }) h third_new r.is
-      (label_divided (left_states third) b third.over after third.points.items s number h.loosens there_third w m by_content by_rest right_third at_third content_third rest_third r)
-
-  pub divided_lefts : left_states (record third { over = after }) ≡ left_states first
-  divided_lefts = lefts_stay b third after s (record (moves_at third.over s) { labels = r.divided }) h third_new r.is ∙ two.lefts ∙ one.lefts
-
--- the same of a text's move
-module _ (b : Automaton) (first second : Loose) (after : Automaton) (s : State) (number : ℕ) (w m : TextMove) (by_rest : State) (h : IsLooseOver b second) (one : Grows first second) (there : state_number s < length first.points.items)
-    (right : IsRightText b first.points.items s m) (at : w ≡ get_or (moves_at first.over s).texts number w) (rest_narrows : Narrows (left_states first) b second.points.items w.rest by_rest m.rest) (r : ReplacesText second.over after s number m by_rest) where
-  right_second : IsRightText b second.points.items s m
-  right_second = text_kept b first.points.items second.points.items s m one.points there right
-
-  at_second : get_or (moves_at second.over s).texts number w ≡ w
-  at_second = ap (λ (v : StateMoves). get_or v.texts number w) (moves_kept first second s one there) ∙ sym at
+-- a move is divided, after the points that its parts lead to
+module _ {M : Type 0} {has : M → List ℕ → Bool} {ends_of : M → Ends} {moves_in : StateMoves → List M} {exchanged : StateMoves → List M → StateMoves} {document : First → Document} (kind : IsKind has ends_of moves_in exchanged document)
+    (b : Automaton) (first second : Loose) (after : Automaton) (s : State) (number : ℕ) (w m : M) (by : Ends) (h : IsLooseOver b second) (one : Grows first second) (there : state_number s < length first.points.items)
+    (r : State) (right : Contains (point_at first.points.items (state_number s)).rights r) (move : Contains (moves_in (moves_at b r)) m) (at : w ≡ get_or (moves_in (moves_at first.over s)) number w)
+    (narrows : NarrowsEnds (left_states second) b second.points.items (ends_of w) by (ends_of m)) (divided : List M)
+    (is : after ≡ with_moves second.over s (exchanged (moves_at second.over s) divided)) (divides : (x : M) → get_or (moves_in (moves_at second.over s)) number x ≡ x → Divides has ends_of x m by (moves_in (moves_at second.over s)) divided) where
+  among_second : Contains (point_at second.points.items (state_number s)).rights r
+  among_second = subst (λ (p : PointView). Contains p.rights r) (sym (one.points.same (state_number s) there)) right
 
   second_new : length (left_states second) ≤ state_number s
-  second_new = right_is_new (left_states second) b second.over second.points.items s right_second.right h.loosens right_second.among
+  second_new = right_is_new (left_states second) b second.over second.points.items s r h.loosens among_second
 
-  pub divided_over_text : IsLooseOver b (record second { over = after })
-  divided_over_text =
-      over_exchanged b second after s (record (moves_at second.over s) { texts = r.divided }) h second_new r.is
-      (text_divided (left_states second) b second.over after second.points.items s number h.loosens (omega (arith, there, one.points.longer)) w m by_rest right_second at_second
-      (subst (λ (a : Automaton). Narrows a b second.points.items w.rest by_rest m.rest) (sym one.lefts) rest_narrows) r)
+  second_there : state_number s < length second.points.items
+  second_there = omega (arith, there, one.points.longer)
 
-  pub divided_lefts_text : left_states (record second { over = after }) ≡ left_states first
-  divided_lefts_text = lefts_stay b second after s (record (moves_at second.over s) { texts = r.divided }) h second_new r.is ∙ one.lefts
+  divides_second : Divides has ends_of w m by (moves_in (moves_at second.over s)) divided
+  divides_second = divides w (ap (λ (v : StateMoves). get_or (moves_in v) number w) (one.moves (state_number s) there) ∙ sym at)
 
--- a move that was read leads to points that are there
-pub read_below : {M : Type 0} (Below : ℕ → M → Type 0) (over : Automaton) (points : List PointView) (moves : List M) (number : ℕ) (w : M) → length over ≡ length points → number < length moves → w ≡ get_or moves number w → All (Below (length over)) moves → Below (length points) w
-read_below Below over points moves number w count lt at all = subst (λ (n : ℕ). Below n w) count (subst (Below (length over)) (sym at) (All-get_or (Below (length over)) moves number w lt all))
+  pub divided_closer : IsCloser b first (record second { over = after })
+  divided_closer = record {
+    loose = over_exchanged b second after s (exchanged (moves_at second.over s) divided) h second_new is
+        (exchanged_loosens (left_states second) b second.over after second.points.items s (exchanged (moves_at second.over s) divided) h.loosens second_new second_there is
+        (divided_loose kind (left_states second) b second.points.items (point_at second.points.items (state_number s)) r (moves_at second.over s) divided w m by among_second move divides_second narrows
+        (h.loosens.loose (state_number s) second_there)));
+    lefts = lefts_stay b second after s (exchanged (moves_at second.over s) divided) h second_new is ∙ one.lefts;
+    points = one.points;
+  }

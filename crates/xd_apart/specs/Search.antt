@@ -1,24 +1,22 @@
 -- What is known in the search for a least document that separates two states.
-use Rattle.std.specs.Prelude.{◌≡◌, ℕ, ◌<◌, ◌≤◌, List, [], ◌∷◌, Option, length, take, Contains}
+use Rattle.std.specs.Prelude.{◌≡◌, ℕ, ◌≤◌, List, [], ◌∷◌, Option, length, take}
 use Rattle.xd_doc.specs.Document.{Document, size}
 use Rattle.xd_doc.specs.Stored.{document_at}
 use Rattle.xd_doc.specs.StoredSeq.{BelongsTo}
 use Rattle.xd_auto.specs.declared.auto.State.{State}
-use Rattle.xd_auto.specs.Automaton.{Automaton, IsState, accepts, moves_at, state_number}
+use Rattle.xd_auto.specs.Automaton.{Automaton, IsState, accepts}
 use Rattle.xd_boole.specs.Meaning.{less}
-use Rattle.xd_boole.specs.Points.{point_at}
 use Rattle.xd_least.specs.declared.document.LeastDocument.{LeastDocument}
 use Rattle.xd_doc.specs.LeastUpTo.{IsLeastUpTo}
 use Rattle.xd_least.specs.Least.{Knows, size_limit}
 use Rattle.xd_apart.specs.declared.loose.Loose.{Loose}
-use Rattle.xd_apart.specs.declared.search.Clash.{Clash}
 use Rattle.xd_apart.specs.declared.search.Found.{Found}
 use Rattle.xd_apart.specs.declared.search.Found.TheVariants.{Least, NoneBelow, Nothing}
 use Rattle.xd_apart.specs.declared.search.Step.{Step}
-use Rattle.xd_apart.specs.declared.search.Step.TheVariants.{Down, Label, Lost, Text}
+use Rattle.xd_apart.specs.declared.search.Step.TheVariants.{Down, Lost, Move}
 use Rattle.xd_apart.specs.declared.search.Taken.{Taken}
 use Rattle.xd_apart.specs.Apart.{IsApart}
-use Rattle.xd_apart.specs.Loose.{IsLooseOver, StandsFor, left_states}
+use Rattle.xd_apart.specs.Loose.{IsClashOf, IsLooseOver, StandsFor, left_states}
 
 -- what a search found out: none is smaller than the bound, or the document is a least one
 abbrev pub IsFound : Automaton → State → State → (bound : ℕ) → List Document → Found → Type 0
@@ -36,16 +34,9 @@ pub record IsTakenAt (a : Automaton) (ds : List Document) (t : Taken) : Type 0 w
   pub state : IsState a t.state
   pub seq : BelongsTo ds t.seq
 
--- the state's point has the right, and both moves are there
-pub record IsClash (l : Loose) (moves_of : State → ℕ) (rights_of : State → ℕ) (c : Clash) : Type 0 where
-  pub state : state_number c.state < length l.points.items
-  pub number : c.number < moves_of c.state
-  pub right : Contains (point_at l.points.items (state_number c.state)).rights c.right
-  pub taken : c.taken < rights_of c.right
-
+-- where a document was wrongly taken: two moves of a kind clash, or a state below took what is there
 abbrev pub IsStep : Automaton → Loose → List Document → Step → Type 0
-IsStep b l ds (Label c) = IsClash l (λ s. length (moves_at l.over s).labels) (λ s. length (moves_at b s).labels) c
-IsStep b l ds (Text c) = IsClash l (λ s. length (moves_at l.over s).texts) (λ s. length (moves_at b s).texts) c
+IsStep b l ds (Move kind c) = IsClashOf kind b l c
 IsStep b l ds (Down t) = IsTakenAt l.over ds t
 IsStep b l ds Lost = Unit {0}
 

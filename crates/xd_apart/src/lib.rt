@@ -2,6 +2,7 @@
 #![tactic(auto)]
 
 mod apart;
+mod divided;
 mod loose;
 mod search;
 

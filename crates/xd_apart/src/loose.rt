@@ -1,23 +1,22 @@
 //! Automata that accept at least what is asked for, and are made closer to it.
 
 ghost use Rattle.std.specs.Prelude.{◌≡◌, ◌<◌, ◌&&◌, ◌∷◌, ◌++◌, ℕ, List, [], cond, length, not, nat_eq, slice_index_or, true, Some, Contains, IfOk, OnOk};
-ghost use Rattle.std.specs.List.{All, AllByRecursion, list_any};
+ghost use Rattle.std.specs.List.{AllByRecursion, list_any};
+ghost use Rattle.std.specs.Option.{IfSome};
 ghost use Rattle.std.specs.Cmp.Lexicographic.{pointwise};
-ghost use Rattle.xd_doc.specs.Classes.{class_has};
-ghost use Rattle.xd_auto.specs.declared.auto.LabelMove.{LabelMove};
-ghost use Rattle.xd_auto.specs.declared.auto.TextMove.{TextMove};
 ghost use Rattle.xd_auto.specs.Automaton.{Automaton, IsState, moves_at, state_number};
 ghost use Rattle.xd_boole.specs.Meaning.{is_last_in, less, with_states};
 ghost use Rattle.xd_auto.specs.Keys.{found_at};
-ghost use Rattle.xd_boole.specs.Points.{MoveBelow, TextBelow, point_at, point_key};
-ghost use Rattle.xd_apart.specs.Loose.{AddsInside, AddsOutside, AddsTextInside, AddsTextOutside, DividesLabels, DividesTexts, Grows, HasMove, HasTextMove, IsLooseOver, IsRightMove, IsRightText, KeepsPoints, Narrows, ReplacesLabel, ReplacesText, StandsFor, copied, left_states};
+ghost use Rattle.xd_boole.specs.Points.{point_at, point_key};
+ghost use Rattle.xd_apart.specs.Loose.{Adds, AreBelow, Divides, EndsBelow, Grows, HasMove, IsClash, IsCloser, IsLooseOver, Narrows, NarrowsEnds, StandsFor, behind_to, copied, in_both, in_first, inside_to, left_states};
 
+use crate::divided::{DividedMove, ends_at, share_all};
 use indexmap::IndexMap;
 use std::alloc::Global;
 use std::marker::Model;
-use xd_auto::{Auto, LabelMove, State, StateKey, TextMove};
+use xd_auto::{Auto, Ends, State, StateKey};
 use xd_boole::{any_last, set_of};
-use xd_doc::{Class, NoMemory, Words};
+use xd_doc::NoMemory;
 
 /// A state, the left, and states that are taken away from it, the rights: what a state of a loose
 /// automaton stands for.
@@ -48,47 +47,25 @@ pub(crate) struct Loose {
     pub(crate) numbers: IndexMap<StateKey, usize>,
 }
 
-/// Equal moves.
-fn share_labels(alloc: Global, moves: &[LabelMove]) -> Result<Vec<LabelMove>, NoMemory>
-    ensures { IfOk result (λ made. made.items ≡ moves.now) }
-{
-    let mut made = Vec::new(alloc);
-    for step in moves {
-        made.push(LabelMove {
-            class: step.class.share()?,
-            content: step.content,
-            rest: step.rest,
-        })?;
-    }
-    Ok(made)
+/// A move of a state, by its number, and a move of a right of its point, both of which take the
+/// same.
+#[derive(Clone, Copy)]
+pub(crate) struct Clash {
+    pub(crate) state: State,
+    pub(crate) number: usize,
+    pub(crate) right: State,
+    pub(crate) taken: usize,
 }
 
-/// Equal moves on a text.
-fn share_texts(alloc: Global, moves: &[TextMove]) -> Result<Vec<TextMove>, NoMemory>
-    ensures { IfOk result (λ made. made.items ≡ moves.now) }
+/// Whether one of the moves leads to the same states on all names of this one.
+fn is_covered<M: DividedMove>(moves: &[M], step: &M) -> Result<bool, NoMemory>
+    ensures { IfOk result (λ answer. answer ≡ true → (name : List ℕ) → M.has step.now name ≡ true → HasMove M.has M.ends_of moves.now name (M.ends_of step.now)) }
 {
-    let mut made = Vec::new(alloc);
-    for step in moves {
-        made.push(TextMove {
-            words: step.words.share()?,
-            rest: step.rest,
-        })?;
-    }
-    Ok(made)
-}
-
-/// Whether one of the moves leads to these states on all labels of the class.
-fn is_covered(
-    moves: &[LabelMove],
-    class: &Class,
-    content: State,
-    rest: State,
-) -> Result<bool, NoMemory>
-    ensures { IfOk result (λ answer. answer ≡ true → (l : List ℕ) → class_has class.now l ≡ true → HasMove moves.now l content rest) }
-{
-    for step in moves {
-        if step.content == content && step.rest == rest {
-            let outside = class.without(&step.class)?;
+    let ends = step.ends();
+    for other in moves {
+        let to = other.ends();
+        if to.inside == ends.inside && to.behind == ends.behind {
+            let outside = step.without(other)?;
             if outside.is_none() {
                 return Ok(true);
             }
@@ -97,163 +74,67 @@ fn is_covered(
     Ok(false)
 }
 
-/// Adds a move, but where another one leads to the same states on all its labels.
-fn add_label(
-    made: &mut Vec<LabelMove>,
-    class: Class,
-    content: State,
-    rest: State,
-) -> Result<(), NoMemory>
-    ensures keeps { OnOk result ((v : LabelMove) → Contains made.old.items v → Contains made.new.items v) }
-    ensures has { OnOk result ((l : List ℕ) → class_has class l ≡ true → HasMove made.new.items l content rest) }
-    ensures below { OnOk result ((n : ℕ) → All (MoveBelow n) made.old.items → state_number content < n → state_number rest < n → All (MoveBelow n) made.new.items) }
+/// Adds a move, but where another one leads to the same states on all its names.
+fn add_move<M: DividedMove>(made: &mut Vec<M>, step: M) -> Result<(), NoMemory>
+    ensures { OnOk result (Adds M.has M.ends_of (M.has step) (M.ends_of step) made.old.items made.new.items) }
 {
-    if is_covered(made, &class, content, rest)? {
+    if is_covered(made, &step)? {
         return Ok(());
     }
-    made.push(LabelMove {
-        class,
-        content,
-        rest,
-    })?;
+    made.push(step)?;
     Ok(())
 }
 
-/// Adds moves that divide a move by one of a right, on the labels of both: one that leads to less
-/// for the content, and one that leads to less for what follows.
-fn add_inside(
-    made: &mut Vec<LabelMove>,
-    divided: &LabelMove,
-    taken: &LabelMove,
-    by_content: State,
-    by_rest: State,
+/// Adds moves that divide a move by one of a right, on the names of both: one that leads to less
+/// inside, if it leads there, and one that leads to less behind.
+fn add_shared<M: DividedMove>(
+    made: &mut Vec<M>,
+    divided: &M,
+    taken: &M,
+    by: Ends,
 ) -> Result<(), NoMemory>
-    ensures adds { OnOk result (AddsInside divided.now taken.now by_content by_rest made.old.items made.new.items) }
-    ensures below { OnOk result ((n : ℕ) → All (MoveBelow n) made.old.items → MoveBelow n divided.now → state_number by_content < n → state_number by_rest < n → All (MoveBelow n) made.new.items) }
+    ensures keeps { OnOk result ((v : M) → Contains made.old.items v → Contains made.new.items v) }
+    ensures inside { OnOk result (IfSome by.inside (λ s. (name : List ℕ) → in_both M.has divided.now taken.now name ≡ true → HasMove M.has M.ends_of made.new.items name (inside_to s (M.ends_of divided.now)))) }
+    ensures behind { OnOk result ((name : List ℕ) → in_both M.has divided.now taken.now name ≡ true → HasMove M.has M.ends_of made.new.items name (behind_to by.behind (M.ends_of divided.now))) }
+    ensures below { OnOk result ((n : ℕ) → AreBelow M.ends_of n made.old.items → EndsBelow n (M.ends_of divided.now) → EndsBelow n by → AreBelow M.ends_of n made.new.items) }
 {
-    let Some(inside) = divided.class.meet(&taken.class)? else {
+    let Some(part) = divided.meet(taken)? else {
         return Ok(());
     };
-    let same = inside.share()?;
-    add_label(made, same, by_content, divided.rest)?;
-    add_label(made, inside, divided.content, by_rest)?;
+    if let Some(state) = by.inside {
+        let same = part.share()?;
+        add_move(made, same.to_inside(state))?;
+    }
+    add_move(made, part.to_behind(by.behind))?;
     Ok(())
 }
 
-/// Adds the move on the labels that the other one doesn't have.
-fn add_outside(
-    made: &mut Vec<LabelMove>,
-    divided: &LabelMove,
-    taken: &LabelMove,
-) -> Result<(), NoMemory>
-    ensures adds { OnOk result (AddsOutside divided.now taken.now made.old.items made.new.items) }
-    ensures below { OnOk result ((n : ℕ) → All (MoveBelow n) made.old.items → MoveBelow n divided.now → All (MoveBelow n) made.new.items) }
+/// Adds the move on the names that the other one doesn't have.
+fn add_outside<M: DividedMove>(made: &mut Vec<M>, divided: &M, taken: &M) -> Result<(), NoMemory>
+    ensures { OnOk result (Adds M.has M.ends_of (in_first M.has divided.now taken.now) (M.ends_of divided.now) made.old.items made.new.items) }
 {
-    let Some(outside) = divided.class.without(&taken.class)? else {
+    let Some(part) = divided.without(taken)? else {
         return Ok(());
     };
-    add_label(made, outside, divided.content, divided.rest)?;
-    Ok(())
+    add_move(made, part)
 }
 
 /// The moves, where the one of this number is divided by a move of a right.
-fn divided_labels(
+fn divided_moves<M: DividedMove>(
     alloc: Global,
-    moves: &[LabelMove],
+    moves: &[M],
     number: usize,
-    taken: &LabelMove,
-    by_content: State,
-    by_rest: State,
-) -> Result<Vec<LabelMove>, NoMemory>
+    taken: &M,
+    by: Ends,
+) -> Result<Vec<M>, NoMemory>
     requires { number < length moves.now }
-    ensures divides { IfOk result (λ made. (w : LabelMove) → slice_index_or moves.now number w ≡ w → DividesLabels w taken.now by_content by_rest moves.now made.items) }
-    ensures below { IfOk result (λ made. (n : ℕ) → All (MoveBelow n) moves.now → state_number by_content < n → state_number by_rest < n → All (MoveBelow n) made.items) }
+    ensures divides { IfOk result (λ made. (w : M) → slice_index_or moves.now number w ≡ w → Divides M.has M.ends_of w taken.now by moves.now made.items) }
+    ensures below { IfOk result (λ made. (n : ℕ) → AreBelow M.ends_of n moves.now → EndsBelow n by → AreBelow M.ends_of n made.items) }
 {
-    let mut made = share_labels(alloc, moves)?;
+    let mut made = share_all(alloc, moves)?;
     let divided = made.remove(number);
-    add_inside(&mut made, &divided, taken, by_content, by_rest)?;
+    add_shared(&mut made, &divided, taken, by)?;
     add_outside(&mut made, &divided, taken)?;
-    Ok(made)
-}
-
-/// Whether one of the moves leads to this state on all texts of the class.
-fn is_text_covered(moves: &[TextMove], words: &Words, rest: State) -> Result<bool, NoMemory>
-    ensures { IfOk result (λ answer. answer ≡ true → (t : List ℕ) → class_has words.now t ≡ true → HasTextMove moves.now t rest) }
-{
-    for step in moves {
-        if step.rest == rest {
-            let outside = words.without(&step.words)?;
-            if outside.is_none() {
-                return Ok(true);
-            }
-        }
-    }
-    Ok(false)
-}
-
-/// Adds a move on texts, but where another one leads to the same state on all of them.
-fn add_text(made: &mut Vec<TextMove>, words: Words, rest: State) -> Result<(), NoMemory>
-    ensures keeps { OnOk result ((v : TextMove) → Contains made.old.items v → Contains made.new.items v) }
-    ensures has { OnOk result ((t : List ℕ) → class_has words t ≡ true → HasTextMove made.new.items t rest) }
-    ensures below { OnOk result ((n : ℕ) → All (TextBelow n) made.old.items → state_number rest < n → All (TextBelow n) made.new.items) }
-{
-    if is_text_covered(made, &words, rest)? {
-        return Ok(());
-    }
-    made.push(TextMove { words, rest })?;
-    Ok(())
-}
-
-/// Adds a move that divides a move on a text by one of a right, on the texts of both: it leads to
-/// less for what follows.
-fn add_text_inside(
-    made: &mut Vec<TextMove>,
-    divided: &TextMove,
-    taken: &TextMove,
-    by_rest: State,
-) -> Result<(), NoMemory>
-    ensures adds { OnOk result (AddsTextInside divided.now taken.now by_rest made.old.items made.new.items) }
-    ensures below { OnOk result ((n : ℕ) → All (TextBelow n) made.old.items → state_number by_rest < n → All (TextBelow n) made.new.items) }
-{
-    let Some(inside) = divided.words.meet(&taken.words)? else {
-        return Ok(());
-    };
-    add_text(made, inside, by_rest)?;
-    Ok(())
-}
-
-/// Adds the move on the texts that the other one doesn't have.
-fn add_text_outside(
-    made: &mut Vec<TextMove>,
-    divided: &TextMove,
-    taken: &TextMove,
-) -> Result<(), NoMemory>
-    ensures adds { OnOk result (AddsTextOutside divided.now taken.now made.old.items made.new.items) }
-    ensures below { OnOk result ((n : ℕ) → All (TextBelow n) made.old.items → TextBelow n divided.now → All (TextBelow n) made.new.items) }
-{
-    let Some(outside) = divided.words.without(&taken.words)? else {
-        return Ok(());
-    };
-    add_text(made, outside, divided.rest)?;
-    Ok(())
-}
-
-/// The moves on texts, where the one of this number is divided by a move of a right.
-fn divided_texts(
-    alloc: Global,
-    moves: &[TextMove],
-    number: usize,
-    taken: &TextMove,
-    by_rest: State,
-) -> Result<Vec<TextMove>, NoMemory>
-    requires { number < length moves.now }
-    ensures divides { IfOk result (λ made. (w : TextMove) → slice_index_or moves.now number w ≡ w → DividesTexts w taken.now by_rest moves.now made.items) }
-    ensures below { IfOk result (λ made. (n : ℕ) → All (TextBelow n) moves.now → state_number by_rest < n → All (TextBelow n) made.items) }
-{
-    let mut made = share_texts(alloc, moves)?;
-    let divided = made.remove(number);
-    add_text_inside(&mut made, &divided, taken, by_rest)?;
-    add_text_outside(&mut made, &divided, taken)?;
     Ok(made)
 }
 
@@ -263,60 +144,11 @@ fn add_copy(alloc: Global, over: &mut Auto, left: State, last: bool) -> Result<S
     ensures added { OnOk result (over.new ≡ over.old ++ copied last (moves_at over.old left) ∷ []) }
     ensures number { IfOk result (λ state. state_number state ≡ length over.old) }
 {
-    let labels = share_labels(alloc, over.label_moves(left))?;
-    let texts = share_texts(alloc, over.text_moves(left))?;
+    let labels = share_all(alloc, over.label_moves(left))?;
+    let texts = share_all(alloc, over.text_moves(left))?;
     let state = over.add_state(last)?;
     over.set_moves(state, labels, texts);
     Ok(state)
-}
-
-/// Divides the move of this number of a state.
-fn replace_label(
-    alloc: Global,
-    over: &mut Auto,
-    state: State,
-    number: usize,
-    taken: &LabelMove,
-    by_content: State,
-    by_rest: State,
-) -> Result<(), NoMemory>
-    requires state { IsState over.old state }
-    requires number { number < length (moves_at over.old state).labels }
-    requires by_content { IsState over.old by_content }
-    requires by_rest { IsState over.old by_rest }
-    ensures { OnOk result (ReplacesLabel over.old over.new state number taken.now by_content by_rest) }
-{
-    let labels = divided_labels(
-        alloc,
-        over.label_moves(state),
-        number,
-        taken,
-        by_content,
-        by_rest,
-    )?;
-    let texts = share_texts(alloc, over.text_moves(state))?;
-    over.set_moves(state, labels, texts);
-    Ok(())
-}
-
-/// The same of a move on a text.
-fn replace_text(
-    alloc: Global,
-    over: &mut Auto,
-    state: State,
-    number: usize,
-    taken: &TextMove,
-    by_rest: State,
-) -> Result<(), NoMemory>
-    requires state { IsState over.old state }
-    requires number { number < length (moves_at over.old state).texts }
-    requires by_rest { IsState over.old by_rest }
-    ensures { OnOk result (ReplacesText over.old over.new state number taken.now by_rest) }
-{
-    let texts = divided_texts(alloc, over.text_moves(state), number, taken, by_rest)?;
-    let labels = share_labels(alloc, over.label_moves(state))?;
-    over.set_moves(state, labels, texts);
-    Ok(())
 }
 
 /// Puts a number under a key.
@@ -442,7 +274,7 @@ impl Loose {
         requires added { IsState auto.now added }
         ensures loose { OnOk result (IsLooseOver auto.now self.new) }
         ensures grows { OnOk result (Grows self.old self.new) }
-        ensures narrows { IfOk result (λ made. Narrows (left_states self.old) auto.now self.new.points.items state made added) }
+        ensures narrows { IfOk result (λ made. Narrows (left_states self.new) auto.now self.new.points.items state made added) }
     {
         let point = self.point(state);
         let left = point.left;
@@ -451,67 +283,50 @@ impl Loose {
         Ok(made)
     }
 
-    /// Divides a move of a state by a move of one of its rights. An element that the right's move
-    /// matches is refused by the right only where it refuses the content or what follows.
-    pub(crate) fn divide_label(
+    /// The states that a move leads to, each in the same way: the one inside where both lead there.
+    fn narrowed_ends(
         &mut self,
         alloc: Global,
         auto: &Auto,
-        state: State,
-        number: usize,
-        taken: &LabelMove,
-    ) -> Result<(), NoMemory>
+        ends: Ends,
+        added: Ends,
+    ) -> Result<Ends, NoMemory>
         requires loose { IsLooseOver auto.now self.old }
-        requires state { state_number state < length self.old.points.items }
-        requires number { number < length (moves_at self.old.over state).labels }
-        requires taken { IsRightMove auto.now self.old.points.items state taken.now }
-        requires below { MoveBelow (length auto.now) taken.now }
+        requires ends { EndsBelow (length self.old.points.items) ends }
+        requires added { EndsBelow (length auto.now) added }
         ensures loose { OnOk result (IsLooseOver auto.now self.new) }
-        ensures lefts { OnOk result (left_states self.new ≡ left_states self.old) }
-        ensures points { OnOk result (KeepsPoints self.old.points.items self.new.points.items) }
+        ensures grows { OnOk result (Grows self.old self.new) }
+        ensures narrows { IfOk result (λ made. NarrowsEnds (left_states self.new) auto.now self.new.points.items ends made added) }
     {
-        let moves = self.over.label_moves(state);
-        let divided = &moves[number];
-        let content = divided.content;
-        let rest = divided.rest;
-        let by_content = self.narrowed(alloc, auto, content, taken.content)?;
-        let by_rest = self.narrowed(alloc, auto, rest, taken.rest)?;
-        replace_label(
-            alloc,
-            &mut self.over,
-            state,
-            number,
-            taken,
-            by_content,
-            by_rest,
-        )?;
-        Ok(())
+        let mut inside = None;
+        if let (Some(state), Some(right)) = (ends.inside, added.inside) {
+            inside = Some(self.narrowed(alloc, auto, state, right)?);
+        }
+        let behind = self.narrowed(alloc, auto, ends.behind, added.behind)?;
+        Ok(Ends { inside, behind })
     }
 
-    /// The same of a move on a text, which the right's move refuses only where it refuses what
-    /// follows.
-    pub(crate) fn divide_text(
+    /// Divides a move of a state by a move of one of its rights. An element that the right's move
+    /// matches is refused by the right only where it refuses the content or what follows, and a
+    /// text only where it refuses what follows.
+    pub(crate) fn divide<M: DividedMove>(
         &mut self,
         alloc: Global,
         auto: &Auto,
-        state: State,
-        number: usize,
-        taken: &TextMove,
+        clash: Clash,
     ) -> Result<(), NoMemory>
         requires loose { IsLooseOver auto.now self.old }
-        requires state { state_number state < length self.old.points.items }
-        requires number { number < length (moves_at self.old.over state).texts }
-        requires taken { IsRightText auto.now self.old.points.items state taken.now }
-        requires below { TextBelow (length auto.now) taken.now }
-        ensures loose { OnOk result (IsLooseOver auto.now self.new) }
-        ensures lefts { OnOk result (left_states self.new ≡ left_states self.old) }
-        ensures points { OnOk result (KeepsPoints self.old.points.items self.new.points.items) }
+        requires clash { IsClash M.moves_in auto.now self.old clash }
+        ensures { OnOk result (IsCloser auto.now self.old self.new) }
     {
-        let moves = self.over.text_moves(state);
-        let divided = &moves[number];
-        let rest = divided.rest;
-        let by_rest = self.narrowed(alloc, auto, rest, taken.rest)?;
-        replace_text(alloc, &mut self.over, state, number, taken, by_rest)?;
+        let ends = ends_at::<M>(&self.over, clash.state, clash.number);
+        let added = ends_at::<M>(auto, clash.right, clash.taken);
+        let by = self.narrowed_ends(alloc, auto, ends, added)?;
+        let others = M::moves(auto, clash.right);
+        let taken = &others[clash.taken];
+        let moves = M::moves(&self.over, clash.state);
+        let made = divided_moves(alloc, moves, clash.number, taken, by)?;
+        M::set(alloc, &mut self.over, clash.state, made)?;
         Ok(())
     }
 }

@@ -11,13 +11,14 @@ ghost use Rattle.xd_boole.specs.Points.{point_at};
 ghost use Rattle.xd_least.specs.Least.{IsLeastOf};
 ghost use Rattle.xd_auto.specs.Kept.{AreRight};
 ghost use Rattle.xd_apart.specs.Apart.{IsApart};
-ghost use Rattle.xd_apart.specs.Loose.{IsLooseOver, KeepsPoints, left_states};
+ghost use Rattle.xd_apart.specs.Loose.{EndsBelow, IsCloser, IsLooseOver};
 ghost use Rattle.xd_apart.specs.Search.{IsFound, IsStep, IsTakenAt, KnowsLefts};
 
-use crate::loose::Loose;
+use crate::divided::{DividedMove, ends_at};
+use crate::loose::{Clash, Loose};
 use std::alloc::Global;
-use xd_auto::{Answers, Auto, State, accepts_kept, trim};
-use xd_doc::{Item, Label, NoMemory, Seq, Store, Text};
+use xd_auto::{Answers, Auto, Ends, LabelMove, MoveKind, State, TextMove, accepts_kept, trim};
+use xd_doc::{Item, NoMemory, Seq, Store};
 use xd_least::{LeastDocument, LeastInhabitants};
 
 /// How often a loose automaton is made closer at most.
@@ -41,23 +42,11 @@ pub(crate) struct Taken {
     pub(crate) seq: Seq,
 }
 
-/// A move of a state, by its number, and a move of a right of its point, both of which take the
-/// same.
-#[derive(Clone, Copy)]
-pub(crate) struct Clash {
-    pub(crate) state: State,
-    pub(crate) number: usize,
-    pub(crate) right: State,
-    pub(crate) taken: usize,
-}
-
 /// Where a document was wrongly taken.
 #[derive(Clone, Copy)]
 pub(crate) enum Step {
-    /// By a move on an element.
-    Label(Clash),
-    /// By a move on a text.
-    Text(Clash),
+    /// By a move of this kind.
+    Move(MoveKind, Clash),
     /// By a state that the first move leads to.
     Down(Taken),
     /// Nowhere that could be told.
@@ -114,127 +103,78 @@ fn is_known(known: &LeastInhabitants, state: State, seq: Seq) -> bool {
     }
 }
 
-/// The number of the move by which the state took the element.
-fn move_over(
+/// Whether the documents in the first item and after it are those that are known of the states.
+fn are_known(known: &LeastInhabitants, store: &Store, ends: Ends, seq: Seq) -> bool
+    requires { BelongsTo store.now seq }
+{
+    if let Some(inside) = ends.inside {
+        if !is_known(known, inside, store.content(seq)) {
+            return false;
+        }
+    }
+    is_known(known, ends.behind, store.next(seq))
+}
+
+/// The number of the move by which the state took the item of this name.
+fn move_over<M: DividedMove>(
     loose: &Loose,
     known: &LeastInhabitants,
     store: &Store,
     at: Taken,
-    label: &Label,
+    name: &M::Name,
 ) -> Option<usize>
     requires state { IsState loose.now.over at.state }
     requires seq { BelongsTo store.now at.seq }
-    ensures { IfSome result (λ number. number < length (moves_at loose.now.over at.state).labels) }
+    ensures { IfSome result (λ number. number < length (M.moves_in (moves_at loose.now.over at.state))) }
 {
-    let content = store.content(at.seq);
-    let rest = store.next(at.seq);
-    let moves = loose.over.label_moves(at.state);
+    let moves = M::moves(&loose.over, at.state);
     for number in 0..moves.len() {
         let step = &moves[number];
-        if step.class.has(label)
-            && is_known(known, step.content, content)
-            && is_known(known, step.rest, rest)
-        {
+        if step.takes(name) && are_known(known, store, step.ends(), at.seq) {
             return Some(number);
         }
     }
     None
 }
 
-/// The number of the move by which the state took the text.
-fn move_over_text(
-    loose: &Loose,
-    known: &LeastInhabitants,
-    store: &Store,
-    at: Taken,
-    text: &Text,
-) -> Option<usize>
-    requires state { IsState loose.now.over at.state }
-    requires seq { BelongsTo store.now at.seq }
-    ensures { IfSome result (λ number. number < length (moves_at loose.now.over at.state).texts) }
-{
-    let rest = store.next(at.seq);
-    let moves = loose.over.text_moves(at.state);
-    for number in 0..moves.len() {
-        let step = &moves[number];
-        if step.words.has(text) && is_known(known, step.rest, rest) {
-            return Some(number);
-        }
-    }
-    None
-}
-
-/// Whether both states accept the documents beside them.
-fn accept_both(
+/// Whether the states accept the documents in the first item and after it.
+fn accept_ends(
     auto: &Auto,
     store: &Store,
     answers: &mut Answers,
-    one: Taken,
-    other: Taken,
+    ends: Ends,
+    seq: Seq,
 ) -> Result<bool, NoMemory>
-    requires one { IsTakenAt auto.now store.now one }
-    requires other { IsTakenAt auto.now store.now other }
+    requires ends { EndsBelow (length auto.now) ends }
+    requires seq { BelongsTo store.now seq }
     requires right { AreRight auto.now store.now answers.old }
     ensures { AreRight auto.now store.now answers.new }
 {
-    if !accepts_kept(answers, auto, one.state, store, one.seq)? {
-        return Ok(false);
-    }
-    accepts_kept(answers, auto, other.state, store, other.seq)
-}
-
-/// The number of the right's first move that takes the element.
-fn right_move(
-    auto: &Auto,
-    store: &Store,
-    answers: &mut Answers,
-    right: Taken,
-    label: &Label,
-) -> Result<Option<usize>, NoMemory>
-    requires right { IsTakenAt auto.now store.now right }
-    requires answers { AreRight auto.now store.now answers.old }
-    ensures number { IfOk result (λ found. IfSome found (λ number. number < length (moves_at auto.now right.state).labels)) }
-    ensures answers { AreRight auto.now store.now answers.new }
-{
-    let content = store.content(right.seq);
-    let rest = store.next(right.seq);
-    let moves = auto.label_moves(right.state);
-    let mut from = 0;
-    while let Some(number) = auto.next_label_move(right.state, label, from) {
-        let inside = Taken {
-            state: moves[number].content,
-            seq: content,
-        };
-        let behind = Taken {
-            state: moves[number].rest,
-            seq: rest,
-        };
-        if accept_both(auto, store, answers, inside, behind)? {
-            return Ok(Some(number));
+    if let Some(inside) = ends.inside {
+        if !accepts_kept(answers, auto, inside, store, store.content(seq))? {
+            return Ok(false);
         }
-        from = number + 1;
     }
-    Ok(None)
+    accepts_kept(answers, auto, ends.behind, store, store.next(seq))
 }
 
-/// The number of the right's first move that takes the text.
-fn right_move_over_text(
+/// The number of the right's first move that takes the item of this name.
+fn right_move<M: DividedMove>(
     auto: &Auto,
     store: &Store,
     answers: &mut Answers,
     right: Taken,
-    text: &Text,
+    name: &M::Name,
 ) -> Result<Option<usize>, NoMemory>
     requires right { IsTakenAt auto.now store.now right }
     requires answers { AreRight auto.now store.now answers.old }
-    ensures number { IfOk result (λ found. IfSome found (λ number. number < length (moves_at auto.now right.state).texts)) }
+    ensures number { IfOk result (λ found. IfSome found (λ number. number < length (M.moves_in (moves_at auto.now right.state)))) }
     ensures answers { AreRight auto.now store.now answers.new }
 {
-    let rest = store.next(right.seq);
-    let moves = auto.text_moves(right.state);
     let mut from = 0;
-    while let Some(number) = auto.next_text_move(right.state, text, from) {
-        if accepts_kept(answers, auto, moves[number].rest, store, rest)? {
+    while let Some(number) = M::next(auto, right.state, name, from) {
+        let ends = ends_at::<M>(auto, right.state, number);
+        if accept_ends(auto, store, answers, ends, right.seq)? {
             return Ok(Some(number));
         }
         from = number + 1;
@@ -249,97 +189,71 @@ fn has_right(loose: &Loose, state: State, right: State) -> bool
     loose.points[state.number()].rights.contains(&right)
 }
 
-/// Where an element was wrongly taken, if a right of the state's point accepts it.
-fn step_over(
-    auto: &Auto,
-    loose: &Loose,
-    store: &Store,
-    answers: &mut Answers,
-    at: Taken,
-    number: usize,
-    label: &Label,
-) -> Result<Step, NoMemory>
-    requires loose { IsLooseOver auto.now loose.now }
-    requires at { IsTakenAt loose.now.over store.now at }
-    requires number { number < length (moves_at loose.now.over at.state).labels }
-    requires answers { AreRight auto.now store.now answers.old }
-    ensures step { IfOk result (IsStep auto.now loose.now store.now) }
-    ensures answers { AreRight auto.now store.now answers.new }
+/// The state that took what a right of its point accepts, of those that a move and a move of a right
+/// lead to.
+fn step_down(loose: &Loose, store: &Store, own: Ends, other: Ends, seq: Seq) -> Option<Taken>
+    requires own { EndsBelow (length loose.now.points.items) own }
+    requires count { length loose.now.over ≡ length loose.now.points.items }
+    requires seq { BelongsTo store.now seq }
+    ensures { IfSome result (IsTakenAt loose.now.over store.now) }
 {
-    let moves = loose.over.label_moves(at.state);
-    let own = &moves[number];
-    let point = &loose.points[at.state.number()];
-    for right in &point.rights {
-        let asked = Taken {
-            state: *right,
-            seq: at.seq,
-        };
-        if let Some(taken) = right_move(auto, store, answers, asked, label)? {
-            let others = auto.label_moves(*right);
-            let other = &others[taken];
-            if has_right(loose, own.content, other.content) {
-                return Ok(Step::Down(Taken {
-                    state: own.content,
-                    seq: store.content(at.seq),
-                }));
-            }
-            if has_right(loose, own.rest, other.rest) {
-                return Ok(Step::Down(Taken {
-                    state: own.rest,
-                    seq: store.next(at.seq),
-                }));
-            }
-            return Ok(Step::Label(Clash {
-                state: at.state,
-                number,
-                right: *right,
-                taken,
-            }));
+    if let (Some(inside), Some(right)) = (own.inside, other.inside) {
+        if has_right(loose, inside, right) {
+            return Some(Taken {
+                state: inside,
+                seq: store.content(seq),
+            });
         }
     }
-    Ok(Step::Lost)
+    if has_right(loose, own.behind, other.behind) {
+        return Some(Taken {
+            state: own.behind,
+            seq: store.next(seq),
+        });
+    }
+    None
 }
 
-/// Where a text was wrongly taken, if a right of the state's point accepts it.
-fn step_over_text(
+/// Where the item of this name was wrongly taken, if a right of the state's point accepts it.
+fn step_over<M: DividedMove>(
     auto: &Auto,
     loose: &Loose,
+    known: &LeastInhabitants,
     store: &Store,
     answers: &mut Answers,
     at: Taken,
-    number: usize,
-    text: &Text,
+    name: &M::Name,
 ) -> Result<Step, NoMemory>
     requires loose { IsLooseOver auto.now loose.now }
     requires at { IsTakenAt loose.now.over store.now at }
-    requires number { number < length (moves_at loose.now.over at.state).texts }
     requires answers { AreRight auto.now store.now answers.old }
     ensures step { IfOk result (IsStep auto.now loose.now store.now) }
     ensures answers { AreRight auto.now store.now answers.new }
 {
-    let moves = loose.over.text_moves(at.state);
-    let own = &moves[number];
+    let Some(number) = move_over::<M>(loose, known, store, at, name) else {
+        return Ok(Step::Lost);
+    };
+    let own = ends_at::<M>(&loose.over, at.state, number);
     let point = &loose.points[at.state.number()];
     for right in &point.rights {
         let asked = Taken {
             state: *right,
             seq: at.seq,
         };
-        if let Some(taken) = right_move_over_text(auto, store, answers, asked, text)? {
-            let others = auto.text_moves(*right);
-            let other = &others[taken];
-            if has_right(loose, own.rest, other.rest) {
-                return Ok(Step::Down(Taken {
-                    state: own.rest,
-                    seq: store.next(at.seq),
-                }));
+        if let Some(taken) = right_move::<M>(auto, store, answers, asked, name)? {
+            let other = ends_at::<M>(auto, *right, taken);
+            if let Some(below) = step_down(loose, store, own, other, at.seq) {
+                return Ok(Step::Down(below));
             }
-            return Ok(Step::Text(Clash {
-                state: at.state,
-                number,
-                right: *right,
-                taken,
-            }));
+            return Ok(Step::Move(
+                M::KIND,
+                Clash {
+                    state: at.state,
+                    number,
+                    right: *right,
+                    taken,
+                },
+            ));
         }
     }
     Ok(Step::Lost)
@@ -362,14 +276,12 @@ fn step_from(
 {
     match store.first(at.seq) {
         None => Ok(Step::Lost),
-        Some(Item::Elem(label)) => match move_over(loose, known, store, at, label) {
-            Some(number) => step_over(auto, loose, store, answers, at, number, label),
-            None => Ok(Step::Lost),
-        },
-        Some(Item::Text(text)) => match move_over_text(loose, known, store, at, text) {
-            Some(number) => step_over_text(auto, loose, store, answers, at, number, text),
-            None => Ok(Step::Lost),
-        },
+        Some(Item::Elem(label)) => {
+            step_over::<LabelMove>(auto, loose, known, store, answers, at, label)
+        }
+        Some(Item::Text(text)) => {
+            step_over::<TextMove>(auto, loose, known, store, answers, at, text)
+        }
     }
 }
 
@@ -410,21 +322,15 @@ fn close_in(
 ) -> Result<bool, NoMemory>
     requires loose { IsLooseOver auto.now loose.old }
     requires at { IsTakenAt loose.old.over store.now at }
-    ensures loose { OnOk result (IsLooseOver auto.now loose.new) }
-    ensures lefts { OnOk result (left_states loose.new ≡ left_states loose.old) }
-    ensures points { OnOk result (KeepsPoints loose.old.points.items loose.new.points.items) }
+    ensures { OnOk result (IsCloser auto.now loose.old loose.new) }
 {
     match clash_below(alloc, auto, loose, known, store, at)? {
-        Step::Label(clash) => {
-            let moves = auto.label_moves(clash.right);
-            let taken = &moves[clash.taken];
-            loose.divide_label(alloc, auto, clash.state, clash.number, taken)?;
+        Step::Move(MoveKind::Label, clash) => {
+            loose.divide::<LabelMove>(alloc, auto, clash)?;
             Ok(true)
         }
-        Step::Text(clash) => {
-            let moves = auto.text_moves(clash.right);
-            let taken = &moves[clash.taken];
-            loose.divide_text(alloc, auto, clash.state, clash.number, taken)?;
+        Step::Move(MoveKind::Text, clash) => {
+            loose.divide::<TextMove>(alloc, auto, clash)?;
             Ok(true)
         }
         Step::Down(_) | Step::Lost => Ok(false),

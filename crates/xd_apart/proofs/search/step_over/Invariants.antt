@@ -2,4 +2,4 @@ use Rattle.xd_auto.specs.Kept.{AreRight}
 use Rattle.xd_apart.proofs.search.step_over.Given as goal
 
 abbrev pub invariant-loop-right : goal.invariant-loop-right
-invariant-loop-right l = AreRight l.auto' l.store l.answers
+invariant-loop-right g l = AreRight l.auto' l.store l.answers

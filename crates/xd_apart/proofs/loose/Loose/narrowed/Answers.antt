@@ -23,6 +23,6 @@ returns-clause-narrows c =
     let more = c.find_or_add.new.self.points.items in
     let rights : c.deref-2.result.now ≡ with_states (p.rights ++ c.args.added ∷ []) [] = search rules in
     let left : c.point.inside.left ≡ p.left = search rules in
-    narrows_by (left_states l) b more p c.args.state c.in_ok-made.made c.args.added
+    narrows_by (left_states c.find_or_add.new.self) b more p c.args.state c.in_ok-made.made c.args.added
     (subst (λ q. StandsFor more q c.in_ok-made.made) (ap (λ x. less x c.deref-2.result.now) left ∙ ap (λ xs. less p.left xs) rights) c.in_ok-made.ensures.state)
     (c.in_ok-made.ensures.grows.points.same (state_number c.args.state) c.requires.state)

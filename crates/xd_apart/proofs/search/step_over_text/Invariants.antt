@@ -1,5 +1,0 @@
-use Rattle.xd_auto.specs.Kept.{AreRight}
-use Rattle.xd_apart.proofs.search.step_over_text.Given as goal
-
-abbrev pub invariant-loop-right : goal.invariant-loop-right
-invariant-loop-right l = AreRight l.auto' l.store l.answers
