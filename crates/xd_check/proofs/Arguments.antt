@@ -12,10 +12,12 @@ use Rattle.xd_syntax.specs.Expression.{Expression, Called, no_argument, argument
 use Rattle.xd_syntax.specs.Program.{Parameter, ProgramTree, names_of, function_of}
 use Rattle.xd_syntax.specs.May.{Scope, May, FitsResult}
 use Rattle.xd_syntax.specs.CheckFaults.{Line, LineKind, LineWhere, Both, Misfits, LinesOf, LinesOfArguments, parameters_of, wrong_argument}
-use Rattle.xd_check_steps.specs.declared.lines.FoundLine.{FoundLine}
-use Rattle.xd_check_steps.specs.FoundLines.{AddsLines, told_size}
+use Rattle.xd_syntax.specs.Kept.{ProgramTable, program_tree}
+use Rattle.xd_check_steps.specs.Found.{AddsFound, Found}
+use Rattle.xd_check_steps.specs.FoundLines.{told_size}
 use Rattle.xd_check_steps.specs.States.{AcceptsJust, IsMisfit}
-use Rattle.xd_check.specs.Walked.{IsWalked}
+use Rattle.xd_check.specs.Walked.{IsWalked, SeenIn, SeenInArguments}
+use Rattle.xd_check_steps.proofs.AddsFoundLemmas.{adds_as}
 use Rattle.xd_laws.proofs.SameScopes.{line_within}
 
 -- The lines of a misfit, where the states accept what the expression may be and what the type says.
@@ -40,11 +42,13 @@ pub no_arguments : (P : ProgramTree) (S : Scope) (qs : List Parameter) → Lines
 no_arguments P S [] = refl
 no_arguments P S (q ∷ qs) = refl
 
--- a call, from its arguments' lines and a state for its result
-pub walked_called : (P : ProgramTree) (S : Scope) (q : Place) (f : List ℕ) (es : List Expression) (a : Automaton) (ds : List Document) (old new : List FoundLine) (s : State) →
-    AddsLines ds (LinesOfArguments told_size P S (parameters_of (function_of P.functions f)) (arguments_of es)) old new → ((d : Document) → (accepts a d s ≡ true) ↔ FitsResult (names_of P) (function_of P.functions f) d) →
-    IsWalked P S (Called q f (arguments_of es)) a ds old new s
-walked_called P S q f es a ds old new s h r = record { may = λ d p. r d; lines = h }
+-- a call, from what its arguments have and a state for its result
+pub walked_called : (p : ProgramTable) (S : Scope) (q : Place) (f : List ℕ) (es : List Expression) (a : Automaton) (ds : List Document) (old new : Found) (s : State) →
+    AddsFound p a ds (SeenInArguments (program_tree p) S (parameters_of (function_of (program_tree p).functions f)) (arguments_of es)) old new → ((d : Document) → (accepts a d s ≡ true) ↔ FitsResult (names_of (program_tree p)) (function_of (program_tree p).functions f) d) →
+    IsWalked p S (Called q f (arguments_of es)) a ds old new s
+walked_called p S q f es a ds old new s h r =
+    let P : ProgramTree = program_tree p in
+    record { may = λ d i. r d; found = adds_as (SeenInArguments P S (parameters_of (function_of P.functions f)) (arguments_of es)) (SeenIn P S (Called q f (arguments_of es))) (λ x m. m) h }
 
 -- what holds of all states holds of the one with this number, if there is one
 pub all_there : {X : Type 0} (P : X → Type 0) (xs : List X) (n : ℕ) → AllByRecursion P xs → IfSome (slice_get xs n) P

@@ -5,6 +5,7 @@ use Rattle.std.specs.Str.{bytes_eq}
 use Rattle.xd_base.specs.declared.Place.{Place}
 use Rattle.xd_doc.specs.Document.{Document, is_proper}
 use Rattle.xd_doc.specs.StoreNodes.{Keeps}
+use Rattle.xd_doc.proofs.StoredLemmas.{Keeps-same}
 use Rattle.xd_auto.specs.declared.auto.State.{State}
 use Rattle.xd_auto.specs.Automaton.{Automaton, IsState, accepts}
 use Rattle.xd_syntax.specs.Words.{has_word}
@@ -16,18 +17,21 @@ use Rattle.xd_syntax.specs.Expression.{Expression, Matched, Clauses, no_clause, 
 use Rattle.xd_syntax.specs.Program.{ProgramTree, names_of}
 use Rattle.xd_syntax.specs.May.{Scope, clause_entry, Allows, Arrives, IsLive, May, MayBind, WhereTrue}
 use Rattle.xd_laws.specs.Scopes.{MayClauses}
-use Rattle.xd_syntax.specs.CheckFaults.{Line, Comes, IsLiveIn, LineWhere, LinesOf, LinesOfClauses, dead_clause, not_exhaustive}
+use Rattle.xd_syntax.specs.CheckFaults.{Line, Comes, IsLiveIn, LineWhere, dead_clause, not_exhaustive}
+use Rattle.xd_syntax.specs.Kept.{ProgramTable, program_tree}
+use Rattle.xd_syntax.specs.Matches.{SeenMatch}
 use Rattle.xd_laws.proofs.Unfoldings.{same_word_eq}
 use Rattle.xd_laws.proofs.OrderedBindings.{has_once, once_has}
+use Rattle.xd_check_steps.specs.declared.findings.MetMatch.{MetMatch}
 use Rattle.xd_check_steps.specs.declared.lines.FoundLine.{FoundLine}
 use Rattle.xd_check_steps.specs.declared.variables.Variable.{Variable}
 use Rattle.xd_laws.proofs.SameScopes.{line_within}
+use Rattle.xd_check_steps.specs.Found.{AddsFound, Found, IsMet, JustLines, Seen, followed}
 use Rattle.xd_check_steps.specs.FoundLines.{AddsLines, told_size}
 use Rattle.xd_check_steps.specs.InScope.{AcceptedBy, ScopeStands, state_of}
 use Rattle.xd_check_steps.specs.States.{AcceptedBySome, AcceptsJust, Grows, with_found}
-use Rattle.xd_check.specs.Walked.{AreClausesWalked, ComesBehind, ComesTo, IsClauseWalked, IsWalked, LinesOfClause}
-use Rattle.xd_check_steps.proofs.LineLists.{adds_as, adds_both}
-use Rattle.xd_check_steps.proofs.AddsLinesLemmas.{Goes, goes_begin, goes_end, goes_more}
+use Rattle.xd_check.specs.Walked.{AreClausesWalked, ComesBehind, ComesTo, IsClauseWalked, IsWalked, SeenIn, SeenInClause, SeenInClauses}
+use Rattle.xd_check_steps.proofs.AddsFoundLemmas.{Begins, Goes, adds_as, adds_before, adds_kept, adds_lines, adds_more, goes_begin, goes_end, goes_more}
 
 -- the same documents come
 pub comes_like : (P : ProgramTree) (S : Scope) (e : Expression) (earlier : List PlacedTree) (C D : Document → Type 0) → ((d : Document) → D d ↔ C d) → ComesBehind P S e earlier C → ComesBehind P S e earlier D
@@ -118,38 +122,40 @@ module _ (P : ProgramTree) (S : Scope) (e : Expression) (earlier : List PlacedTr
         (ap (λ ws. has_word ws x) n ∙ same_words x) (bound_at us b x d p)
 
 -- a clause that is not live
-pub clause_dead : (P : ProgramTree) (S : Scope) (e : Expression) (earlier : List PlacedTree) (Q : PlacedTree) (f : Expression) (a : Automaton) (ds : List Document) (old new : List FoundLine) →
-    (IsLiveIn P S e earlier Q → ⊥) → AddsLines ds (λ ms. ms ≡ record { place = place_of Q; kind = dead_clause; document = None } ∷ []) old new →
-    IsClauseWalked P S e earlier Q f a ds old new None
-clause_dead P S e earlier Q f a ds old new n h = record {
-  may = λ d p. ((λ m. absurd m), (λ m. absurd (n m.0)));
-  lines = adds_as ds (λ ms. ms ≡ record { place = place_of Q; kind = dead_clause; document = None } ∷ []) (LinesOfClause P S e earlier Q f) (λ ms m. inr (n, m)) old new h;
-  dead = λ r. n;
-}
+pub clause_dead : (p : ProgramTable) (S : Scope) (e : Expression) (earlier : List PlacedTree) (Q : PlacedTree) (f : Expression) (a : Automaton) (ds : List Document) (old new : Found) →
+    (IsLiveIn (program_tree p) S e earlier Q → ⊥) → AddsLines ds (λ ls. ls ≡ record { place = place_of Q; kind = dead_clause; document = None } ∷ []) old.lines new.lines → new.met ≡ old.met →
+    IsClauseWalked p S e earlier Q f a ds old new None
+clause_dead p S e earlier Q f a ds old new n h same =
+    let warning : List Line → Type 0 = λ ls. ls ≡ record { place = place_of Q; kind = dead_clause; document = None } ∷ [] in
+    record {
+      may = λ d i. ((λ m. absurd m), (λ m. absurd (n m.0)));
+      found = adds_as (JustLines warning) (SeenInClause (program_tree p) S e earlier Q f) (λ s m. inr (n, m)) (adds_lines warning old new h same);
+      dead = λ r. n;
+    }
 
 -- and one that is, whose body was walked
-pub clause_live : (P : ProgramTree) (S : Scope) (e : Expression) (earlier : List PlacedTree) (Q : PlacedTree) (f : Expression) (a : Automaton) (ds : List Document) (old new : List FoundLine) (s : State) →
-    IsLiveIn P S e earlier Q → IsWalked P (clause_entry e earlier Q ∷ S) f a ds old new s → IsClauseWalked P S e earlier Q f a ds old new (Some s)
-clause_live P S e earlier Q f a ds old new s l w = record {
-  may = λ d p. ((λ m. (l, (w.may d p).0 m)), (λ m. (w.may d p).1 m.1));
-  lines = adds_as ds (LinesOf told_size P (clause_entry e earlier Q ∷ S) f) (LinesOfClause P S e earlier Q f) (λ ms m. inl (l, m)) old new w.lines;
+pub clause_live : (p : ProgramTable) (S : Scope) (e : Expression) (earlier : List PlacedTree) (Q : PlacedTree) (f : Expression) (a : Automaton) (ds : List Document) (old new : Found) (s : State) →
+    IsLiveIn (program_tree p) S e earlier Q → IsWalked p (clause_entry e earlier Q ∷ S) f a ds old new s → IsClauseWalked p S e earlier Q f a ds old new (Some s)
+clause_live p S e earlier Q f a ds old new s l w = record {
+  may = λ d i. ((λ m. (l, (w.may d i).0 m)), (λ m. (w.may d i).1 m.1));
+  found = adds_as (SeenIn (program_tree p) (clause_entry e earlier Q ∷ S) f) (SeenInClause (program_tree p) S e earlier Q f) (λ s m. inl (l, m)) w.found;
   dead = λ r. absurd (cc);
 }
 
 -- clauses from some on are still to be walked
-pub record AreClausesGoing (P : ProgramTree) (S : Scope) (p : Place) (e : Expression) (all left : Clauses) (C : Document → Type 0) (a : Automaton) (ds : List Document) (old new : List FoundLine) (ss : List State) : Type 0 where
+pub record AreClausesGoing (p : ProgramTable) (S : Scope) (q : Place) (e : Expression) (all left : Clauses) (C : Document → Type 0) (a : Automaton) (ds : List Document) (old new : Found) (ss : List State) : Type 0 where
   pub earlier : List PlacedTree
-  pub comes : ComesBehind P S e earlier C
-  pub may : (d : Document) → is_proper d ≡ true → MayClauses P S e [] all d ↔ (AcceptedBySome a ss d ⊎ MayClauses P S e earlier left d)
-  pub lines : AddsLines ds (Goes (LinesOfClauses told_size P S p e earlier left) (LinesOfClauses told_size P S p e [] all)) old new
+  pub comes : ComesBehind (program_tree p) S e earlier C
+  pub may : (d : Document) → is_proper d ≡ true → MayClauses (program_tree p) S e [] all d ↔ (AcceptedBySome a ss d ⊎ MayClauses (program_tree p) S e earlier left d)
+  pub found : AddsFound p a ds (Goes (SeenInClauses (program_tree p) S q e earlier left) (SeenInClauses (program_tree p) S q e [] all)) old new
 
-pub clauses_begin : (P : ProgramTree) (S : Scope) (p : Place) (e : Expression) (cs : Clauses) (C : Document → Type 0) (a : Automaton) (ds : List Document) (ls : List FoundLine) → ComesBehind P S e [] C →
-    AreClausesGoing P S p e cs cs C a ds ls ls []
-clauses_begin P S p e cs C a ds ls h = record {
+pub clauses_begin : (p : ProgramTable) (S : Scope) (q : Place) (e : Expression) (cs : Clauses) (C : Document → Type 0) (a : Automaton) (ds : List Document) (f : Found) → ComesBehind (program_tree p) S e [] C →
+    AreClausesGoing p S q e cs cs C a ds f f []
+clauses_begin p S q e cs C a ds f h = record {
   earlier = [];
   comes = h;
-  may = λ d q. ((λ m. inr m), (λ m. elim m [ inl x ↦ absurd x | inr x ↦ x ]));
-  lines = goes_begin ds (LinesOfClauses told_size P S p e [] cs) ls ls refl;
+  may = λ d i. ((λ m. inr m), (λ m. elim m [ inl x ↦ absurd x | inr x ↦ x ]));
+  found = goes_begin (SeenInClauses (program_tree p) S q e [] cs) f;
 }
 
 some_kept : (a b : Automaton) → Grows a b → (ss : List State) → AllByRecursion (IsState a) ss → (d : Document) → AcceptedBySome b ss d ↔ AcceptedBySome a ss d
@@ -172,69 +178,92 @@ some_either a ss us None e d = subst (λ vs. AcceptedBySome a vs d ↔ (Accepted
 some_either a ss us (Some s) e d = subst (λ vs. AcceptedBySome a vs d ↔ (AcceptedBySome a ss d ⊎ (accepts a d s ≡ true))) (sym e) (some_push a ss s d)
 
 -- the automaton grows, and what comes is told in another way
-pub going_on : (P : ProgramTree) (S : Scope) (p : Place) (e : Expression) (all left : Clauses) (C D : Document → Type 0) (a b : Automaton) (ds : List Document) (old new : List FoundLine) (ss : List State) →
-    Grows a b → AllByRecursion (IsState a) ss → ((d : Document) → D d ↔ C d) → AreClausesGoing P S p e all left C a ds old new ss → AreClausesGoing P S p e all left D b ds old new ss
-going_on P S p e all left C D a b ds old new ss grows there same g = record {
-  earlier = g.earlier;
-  comes = comes_like P S e g.earlier C D same g.comes;
-  may = λ d q.
-      (let x = g.may d q in
-      let k = some_kept a b grows ss there d in (
-        (λ m. elim (x.0 m) [ inl y ↦ inl (k.1 y) | inr y ↦ inr y ]),
-        (λ m. elim m [ inl y ↦ x.1 (inl (k.0 y)) | inr y ↦ x.1 (inr y) ]),
-      ));
-  lines = g.lines;
-}
-
--- one more clause is walked
-pub clauses_more : (P : ProgramTree) (S : Scope) (p : Place) (e : Expression) (all left : Clauses) (Q : PlacedTree) (f : Expression) (C D : Document → Type 0) (a b : Automaton) (ds es : List Document) (old mid new : List FoundLine) (ss us : List State) (o : Option State) →
-    Grows a b → Keeps ds es → AllByRecursion (IsState a) ss → (g : AreClausesGoing P S p e all (clause Q f left) C a ds old mid ss) → IsClauseWalked P S e g.earlier Q f b es mid new o →
-    ComesBehind P S e (Q ∷ g.earlier) D → us ≡ with_found ss o → AreClausesGoing P S p e all left D b es old new us
-clauses_more P S p e all left Q f C D a b ds es old mid new ss us o grows keeps there g w comes same = record {
-  earlier = Q ∷ g.earlier;
-  comes = comes;
-  may = λ d q.
-      (let x = g.may d q in
-      let k = some_kept a b grows ss there d in
-      let u = some_either b ss us o same d in
-      let c = w.may d q in (
-        (λ m. elim (x.0 m) [
-          | inl y ↦ inl (u.1 (inl (k.1 y)))
-          | inr y ↦ elim y [ inl z ↦ inl (u.1 (inr (c.1 z))) | inr z ↦ inr z ]
-        ]),
-        (λ m. elim m [
-          | inl y ↦ elim (u.0 y) [ inl z ↦ x.1 (inl (k.0 z)) | inr z ↦ x.1 (inr (inl (c.0 z))) ]
-          | inr y ↦ x.1 (inr (inr y))
-        ]),
-      ));
-  lines = goes_more ds es keeps (LinesOfClauses told_size P S p e g.earlier (clause Q f left)) (LinesOfClause P S e g.earlier Q f) (LinesOfClauses told_size P S p e (Q ∷ g.earlier) left) (LinesOfClauses told_size P S p e [] all) old mid new
-      g.lines w.lines (λ xs ms x m. (xs, ms, x, m, refl));
-}
-
--- after the last clause stands the line of what no clause takes
-pub clauses_end : (P : ProgramTree) (S : Scope) (p : Place) (e : Expression) (all left : Clauses) (C : Document → Type 0) (a b : Automaton) (ds es : List Document) (old mid new : List FoundLine) (ss : List State) (made : State) →
-    left ≡ no_clause → Keeps ds es → (g : AreClausesGoing P S p e all left C a ds old mid ss) → AddsLines es (LineWhere told_size p not_exhaustive C) mid new →
-    ((d : Document) → (accepts b d made ≡ true) ↔ AcceptedBySome a ss d) → AreClausesWalked P S p e all b es old new made
-clauses_end P S p e all left C a b ds es old mid new ss made none keeps g h united =
-    let cl : (ls : List Line) → LineWhere told_size p not_exhaustive C ls → LinesOfClauses told_size P S p e g.earlier left ls
-    = λ ls m. subst (λ cs. LinesOfClauses told_size P S p e g.earlier cs ls) (sym none)
-    (line_within told_size p not_exhaustive C (Comes P S e g.earlier) (comes_from P S e g.earlier C g.comes) (comes_to P S e g.earlier C g.comes) ls m) in
+pub going_on : (p : ProgramTable) (S : Scope) (q : Place) (e : Expression) (all left : Clauses) (C D : Document → Type 0) (a b : Automaton) (ds : List Document) (old new : Found) (ss : List State) →
+    Grows a b → AllByRecursion (IsState a) ss → ((d : Document) → D d ↔ C d) → AreClausesGoing p S q e all left C a ds old new ss → AreClausesGoing p S q e all left D b ds old new ss
+going_on p S q e all left C D a b ds old new ss grows there same g =
+    let P : ProgramTree = program_tree p in
     record {
-      may = λ d q.
-          (let x = g.may d q in
-          let gone : MayClauses P S e g.earlier left d → ⊥ = λ m. (let n : MayClauses P S e g.earlier no_clause d = subst (λ cs. MayClauses P S e g.earlier cs d) none m in n) in
-          ((λ m. x.1 (inl ((united d).0 m))), (λ m. elim (x.0 m) [ inl y ↦ (united d).1 y | inr y ↦ absurd (gone y) ])));
-      lines = goes_end ds es keeps (LinesOfClauses told_size P S p e g.earlier left) (LinesOfClauses told_size P S p e [] all) old mid new g.lines
-          (adds_as es (LineWhere told_size p not_exhaustive C) (LinesOfClauses told_size P S p e g.earlier left) cl mid new h);
+      earlier = g.earlier;
+      comes = comes_like P S e g.earlier C D same g.comes;
+      may = λ d i.
+          (let x = g.may d i in
+          let k = some_kept a b grows ss there d in (
+            (λ m. elim (x.0 m) [ inl y ↦ inl (k.1 y) | inr y ↦ inr y ]),
+            (λ m. elim m [ inl y ↦ x.1 (inl (k.0 y)) | inr y ↦ x.1 (inr y) ]),
+          ));
+      found = adds_kept grows (Keeps-same ds) (Goes (SeenInClauses P S q e g.earlier left) (SeenInClauses P S q e [] all)) g.found;
     }
 
--- a match, from its scrutinee and its clauses
-pub walked_matched : (P : ProgramTree) (S : Scope) (p : Place) (e : Expression) (cs : Clauses) (a b : Automaton) (ds es : List Document) (old mid new : List FoundLine) (s t : State) → Keeps ds es →
-    IsWalked P S e a ds old mid s → AreClausesWalked P S p e cs b es mid new t → IsWalked P S (Matched p e cs) b es old new t
-walked_matched P S p e cs a b ds es old mid new s t k w c = record {
-  may = c.may;
-  lines = adds_both ds es k (LinesOf told_size P S e) (LinesOfClauses told_size P S p e [] cs) old mid new w.lines c.lines;
-}
+-- what a clause has, and then what those after it have
+clause_seen : (P : ProgramTree) (S : Scope) (q : Place) (e : Expression) (earlier : List PlacedTree) (Q : PlacedTree) (f : Expression) (left : Clauses) (s t : Seen) → SeenInClause P S e earlier Q f s → SeenInClauses P S q e (Q ∷ earlier) left t →
+    SeenInClauses P S q e earlier (clause Q f left) (followed s t)
+clause_seen P S q e earlier Q f left s t (inl x) m = ((s.lines, t.lines, inl (x.0, (x.1).0), m.0, refl), (s.matches, t.matches, inl (x.0, (x.1).1), m.1, refl))
+clause_seen P S q e earlier Q f left s t (inr x) m = ((s.lines, t.lines, inr (x.0, (x.1).0), m.0, refl), (s.matches, t.matches, inr (x.0, (x.1).1), m.1, refl))
+
+-- one more clause is walked
+pub clauses_more : (p : ProgramTable) (S : Scope) (q : Place) (e : Expression) (all left : Clauses) (Q : PlacedTree) (f : Expression) (C D : Document → Type 0) (a b : Automaton) (ds es : List Document) (old mid new : Found) (ss us : List State) (o : Option State) →
+    Grows a b → Keeps ds es → AllByRecursion (IsState a) ss → (g : AreClausesGoing p S q e all (clause Q f left) C a ds old mid ss) → IsClauseWalked p S e g.earlier Q f b es mid new o →
+    ComesBehind (program_tree p) S e (Q ∷ g.earlier) D → us ≡ with_found ss o → AreClausesGoing p S q e all left D b es old new us
+clauses_more p S q e all left Q f C D a b ds es old mid new ss us o grows keeps there g w comes same =
+    let P : ProgramTree = program_tree p in
+    record {
+      earlier = Q ∷ g.earlier;
+      comes = comes;
+      may = λ d i.
+          (let x = g.may d i in
+          let k = some_kept a b grows ss there d in
+          let u = some_either b ss us o same d in
+          let c = w.may d i in (
+            (λ m. elim (x.0 m) [
+              | inl y ↦ inl (u.1 (inl (k.1 y)))
+              | inr y ↦ elim y [ inl z ↦ inl (u.1 (inr (c.1 z))) | inr z ↦ inr z ]
+            ]),
+            (λ m. elim m [
+              | inl y ↦ elim (u.0 y) [ inl z ↦ x.1 (inl (k.0 z)) | inr z ↦ x.1 (inr (inl (c.0 z))) ]
+              | inr y ↦ x.1 (inr (inr y))
+            ]),
+          ));
+      found = goes_more grows keeps (SeenInClauses P S q e g.earlier (clause Q f left)) (SeenInClause P S e g.earlier Q f) (SeenInClauses P S q e (Q ∷ g.earlier) left) (SeenInClauses P S q e [] all) (clause_seen P S q e g.earlier Q f left) g.found w.found;
+    }
+
+-- after the last clause stands the line of what no clause takes
+pub clauses_end : (p : ProgramTable) (S : Scope) (q : Place) (e : Expression) (all left : Clauses) (C : Document → Type 0) (a b : Automaton) (ds es : List Document) (old mid new : Found) (ss : List State) (made : State) →
+    left ≡ no_clause → Grows a b → Keeps ds es → (g : AreClausesGoing p S q e all left C a ds old mid ss) → AddsLines es (LineWhere told_size q not_exhaustive C) mid.lines new.lines → new.met ≡ mid.met →
+    ((d : Document) → (accepts b d made ≡ true) ↔ AcceptedBySome a ss d) → AreClausesWalked p S q e all b es old new made
+clauses_end p S q e all left C a b ds es old mid new ss made none grows keeps g h met united =
+    let P : ProgramTree = program_tree p in
+    let line : List Line → Type 0 = LineWhere told_size q not_exhaustive C in
+    let rest : Seen → Type 0 = SeenInClauses P S q e g.earlier left in
+    let end : (s : Seen) → JustLines line s → rest s
+    = λ s m. subst (λ cs. SeenInClauses P S q e g.earlier cs s) (sym none)
+    (line_within told_size q not_exhaustive C (Comes P S e g.earlier) (comes_from P S e g.earlier C g.comes) (comes_to P S e g.earlier C g.comes) s.lines m.0, m.1) in
+    record {
+      may = λ d i.
+          (let x = g.may d i in
+          let gone : MayClauses P S e g.earlier left d → ⊥ = λ m. (let n : MayClauses P S e g.earlier no_clause d = subst (λ cs. MayClauses P S e g.earlier cs d) none m in n) in
+          ((λ m. x.1 (inl ((united d).0 m))), (λ m. elim (x.0 m) [ inl y ↦ (united d).1 y | inr y ↦ absurd (gone y) ])));
+      found = goes_end grows keeps rest (SeenInClauses P S q e [] all) g.found (adds_as (JustLines line) rest end (adds_lines line mid new h met));
+    }
+
+matched_seen : (P : ProgramTree) (S : Scope) (q : Place) (e : Expression) (cs : Clauses) (s t : Seen) → Begins (record { place = q; scope = S; scrutinee = e; clauses = cs }) (SeenIn P S e) s → SeenInClauses P S q e [] cs t →
+    SeenIn P S (Matched q e cs) (followed s t)
+matched_seen P S q e cs s t x y = (
+  (s.lines, t.lines, (x.1).0, y.0, refl),
+  (record { place = q; scope = S; scrutinee = e; clauses = cs } ∷ [], x.0 ++ t.matches, refl, (x.0, t.matches, (x.1).1, y.1, refl), ap (λ ms. ms ++ t.matches) x.2),
+)
+
+-- a match, from its scrutinee, before which no match was met, and its clauses
+pub walked_matched : (p : ProgramTable) (S : Scope) (q : Place) (e : Expression) (cs : Clauses) (x : MetMatch) (a b : Automaton) (ds es : List Document) (lines : List FoundLine) (none earlier after : List MetMatch) (mid new : Found) (s t : State) →
+    Grows a b → Keeps ds es → none ≡ [] → after ≡ earlier ++ x ∷ mid.met → IsMet p a (record { place = q; scope = S; scrutinee = e; clauses = cs }) x →
+    IsWalked p S e a ds (record { lines = lines; met = none }) mid s → AreClausesWalked p S q e cs b es (record { lines = mid.lines; met = after }) new t →
+    IsWalked p S (Matched q e cs) b es (record { lines = lines; met = earlier }) new t
+walked_matched p S q e cs x a b ds es lines none earlier after mid new s t g k z i m w c =
+    let P : ProgramTree = program_tree p in
+    let own : SeenMatch = record { place = q; scope = S; scrutinee = e; clauses = cs } in
+    record {
+      may = c.may;
+      found = adds_more g k (Begins own (SeenIn P S e)) (SeenInClauses P S q e [] cs) (SeenIn P S (Matched q e cs)) (matched_seen P S q e cs) (adds_before (SeenIn P S e) lines none earlier after mid own x z m i w.found) c.found;
+    }
 
 -- what a scrutinee may be comes to the first clause
 pub comes_first : (P : ProgramTree) (S : Scope) (e : Expression) (a : Automaton) (s : State) (C : Document → Type 0) → AcceptsJust a s (May P S e) → ((d : Document) → C d ↔ (accepts a d s ≡ true)) → ComesBehind P S e [] C

@@ -23,8 +23,8 @@ use Rattle.xd_clauses.specs.Behind.{Remains, StandsIn}
 use Rattle.xd_clauses.specs.Clauses.{Accepted}
 use Rattle.xd_clauses.specs.declared.behind.Remaining.{Remaining}
 use Rattle.xd_clauses.specs.declared.compiled.CompiledPatterns.{CompiledPatterns}
-use Rattle.xd_check_steps.specs.declared.lines.FoundLine.{FoundLine}
 use Rattle.xd_check_steps.specs.declared.variables.Variable.{Variable}
+use Rattle.xd_check_steps.specs.Found.{Found}
 use Rattle.xd_check_steps.specs.FoundLines.{AddsLines, told_size}
 use Rattle.xd_check_steps.specs.InScope.{AreStates, ScopeStands}
 use Rattle.xd_check_steps.specs.Walkable.{ClauseCanBeWalked, expr_at}
@@ -85,28 +85,28 @@ ahead_more p patterns a b cs n r t k h l e i =
 
 -- The clauses from the n-th on are still to be walked: `first` is the scrutinee's state, and r what
 -- the others leave of it.
-pub record ClausesLoop (p : ProgramTable) (patterns : CompiledPatterns) (place : Place) (a b : Automaton) (vs ws : List Variable) (ds es : List Document) (old new : List FoundLine) (cs : List Clause) (n : ℕ) (ss : List State) (first : State) (r : Remaining) : Type 0 where
+pub record ClausesLoop (p : ProgramTable) (patterns : CompiledPatterns) (place : Place) (a b : Automaton) (vs ws : List Variable) (ds es : List Document) (old new : Found) (cs : List Clause) (n : ℕ) (ss : List State) (first : State) (r : Remaining) : Type 0 where
   pub stays : Stays a b vs ws ds es
   pub there : AllByRecursion (IsState b) ss
   pub ahead : AreAhead p patterns b cs n r
   pub walked : (S : Scope) (e : Expression) → ScopeStands (program_tree p) S a vs → ComesBehind (program_tree p) S e [] (Accepted a first) →
-      AreClausesGoing (program_tree p) S place e (clauses_in p cs) (clauses_in p (drop n cs)) (Remains b patterns r) b es old new ss
+      AreClausesGoing p S place e (clauses_in p cs) (clauses_in p (drop n cs)) (Remains b patterns r) b es old new ss
 
-pub clauses_loop_begin : (p : ProgramTable) (patterns : CompiledPatterns) (place : Place) (a : Automaton) (vs : List Variable) (ds : List Document) (ls : List FoundLine) (cs : List Clause) (first : State) (r : Remaining) → AllByRecursion (ClauseCanBeWalked p) (clause_numbers cs) → StandsIn a patterns r →
-    ((d : Document) → Remains a patterns r d ↔ Accepted a first d) → ClausesLoop p patterns place a a vs vs ds ds ls ls cs 0 [] first r
-clauses_loop_begin p patterns place a vs ds ls cs first r h i same = record {
+pub clauses_loop_begin : (p : ProgramTable) (patterns : CompiledPatterns) (place : Place) (a : Automaton) (vs : List Variable) (ds : List Document) (f : Found) (cs : List Clause) (first : State) (r : Remaining) → AllByRecursion (ClauseCanBeWalked p) (clause_numbers cs) → StandsIn a patterns r →
+    ((d : Document) → Remains a patterns r d ↔ Accepted a first d) → ClausesLoop p patterns place a a vs vs ds ds f f cs 0 [] first r
+clauses_loop_begin p patterns place a vs ds f cs first r h i same = record {
   stays = stays_begin a vs ds;
   there = tt;
   ahead = ahead_begin p patterns a cs r h i;
-  walked = λ S e s c. clauses_begin (program_tree p) S place e (clauses_in p cs) (Remains a patterns r) a ds ls (comes_like (program_tree p) S e [] (Accepted a first) (Remains a patterns r) same c);
+  walked = λ S e s c. clauses_begin p S place e (clauses_in p cs) (Remains a patterns r) a ds f (comes_like (program_tree p) S e [] (Accepted a first) (Remains a patterns r) same c);
 }
 
 -- One more clause is walked. What comes to it is the state v, and then r remains as s, and without what it takes as t.
-pub clauses_loop_more : (p : ProgramTable) (patterns : CompiledPatterns) (place : Place) (a b m c : Automaton) (vs ws xs : List Variable) (ds es fs : List Document) (old mid new : List FoundLine) (cs : List Clause) (n : ℕ) (ss us : List State) (first v : State) (r s t : Remaining) (k : Clause) (o : Option State) →
+pub clauses_loop_more : (p : ProgramTable) (patterns : CompiledPatterns) (place : Place) (a b m c : Automaton) (vs ws xs : List Variable) (ds es fs : List Document) (old mid new : Found) (cs : List Clause) (n : ℕ) (ss us : List State) (first v : State) (r s t : Remaining) (k : Clause) (o : Option State) →
     AreStates a vs → ClausesLoop p patterns place a b vs ws ds es old mid cs n ss first r → n < length cs → k ≡ get_or cs n k →
     Grows b m → StandsIn m patterns s → ((d : Document) → Remains m patterns s d ↔ Remains b patterns r d) → ((d : Document) → Takes (names_of (program_tree p)) (unplaced (placed_at p.patterns (k.pattern).at)) d → Accepted m v d ↔ Remains b patterns r d) →
     ((S : Scope) (e : Expression) (earlier : List PlacedTree) → ScopeStands (program_tree p) S m ws → ComesTo (program_tree p) S e earlier (placed_at p.patterns (k.pattern).at) (Accepted m v) →
-    IsClauseWalked (program_tree p) S e earlier (placed_at p.patterns (k.pattern).at) (expr_at p (k.body).at) c fs mid new o) → xs ≡ ws → Grows m c → Keeps es fs → us ≡ with_found ss o → IfSome o (IsState c) →
+    IsClauseWalked p S e earlier (placed_at p.patterns (k.pattern).at) (expr_at p (k.body).at) c fs mid new o) → xs ≡ ws → Grows m c → Keeps es fs → us ≡ with_found ss o → IfSome o (IsState c) →
     StandsIn c patterns t → ((d : Document) → Remains c patterns t d ↔ (Remains c patterns s d × (o ≢ None → Takes (names_of (program_tree p)) (unplaced (placed_at p.patterns (k.pattern).at)) d → ⊥))) →
     ClausesLoop p patterns place a c vs xs ds fs old new cs (n + 1) us first t
 clauses_loop_more p patterns place a b m c vs ws xs ds es fs old mid new cs n ss us first v r s t k o av h l e gb there same among f x gm q u i after pass =
@@ -120,18 +120,17 @@ clauses_loop_more p patterns place a b m c vs ws xs ds es fs old mid new cs n ss
       there = found_there b c g ss us o h.there i u;
       ahead = ahead_more p patterns b c cs n r t k h.ahead l e after;
       walked = λ S z stands comes.
-          (let y : AreClausesGoing P S place z (clauses_in p cs) (clauses_in p (k ∷ drop (n + 1) cs)) (Remains b patterns r) b es old mid ss
-          = subst (λ (ys : List Clause). AreClausesGoing P S place z (clauses_in p cs) (clauses_in p ys) (Remains b patterns r) b es old mid ss) fr (h.walked S z stands comes) in
+          (let y : AreClausesGoing p S place z (clauses_in p cs) (clauses_in p (k ∷ drop (n + 1) cs)) (Remains b patterns r) b es old mid ss
+          = subst (λ (ys : List Clause). AreClausesGoing p S place z (clauses_in p cs) (clauses_in p ys) (Remains b patterns r) b es old mid ss) fr (h.walked S z stands comes) in
           let w = f S z y.earlier (subst (ScopeStands P S m) (sym st.variables) (scope_kept P S a m (grows_then a b m st.grows gb) vs av stands)) (comes_among P S z y.earlier (Remains b patterns r) (Accepted m v) Q y.comes among) in
-          clauses_more P S place z (clauses_in p cs) (clauses_in p (drop (n + 1) cs)) Q (expr_at p (k.body).at) (Remains b patterns r) (Remains c patterns t) b c es fs old mid new ss us o g q h.there y w
+          clauses_more p S place z (clauses_in p cs) (clauses_in p (drop (n + 1) cs)) Q (expr_at p (k.body).at) (Remains b patterns r) (Remains c patterns t) b c es fs old mid new ss us o g q h.there y w
           (passed P S z y.earlier (Remains c patterns s) (still_behind P S z y.earlier b m c patterns r s there same gm y.comes) Q o (Remains c patterns t) w.dead pass) u);
     }
 
-pub clauses_loop_end : (p : ProgramTable) (patterns : CompiledPatterns) (place : Place) (a b m c : Automaton) (vs ws : List Variable) (ds es fs : List Document) (old mid new : List FoundLine) (cs : List Clause) (n : ℕ) (ss : List State) (first left made : State) (r : Remaining) → drop n cs ≡ [] →
-    ClausesLoop p patterns place a b vs ws ds es old mid cs n ss first r → Grows b m → ((d : Document) → Accepted m left d ↔ Remains b patterns r d) → Keeps es fs → AddsLines fs (LineWhere told_size place not_exhaustive (Accepted m left)) mid new →
+pub clauses_loop_end : (p : ProgramTable) (patterns : CompiledPatterns) (place : Place) (a b m c : Automaton) (vs ws : List Variable) (ds es fs : List Document) (old mid new : Found) (cs : List Clause) (n : ℕ) (ss : List State) (first left made : State) (r : Remaining) → drop n cs ≡ [] →
+    ClausesLoop p patterns place a b vs ws ds es old mid cs n ss first r → Grows b m → Grows m c → ((d : Document) → Accepted m left d ↔ Remains b patterns r d) → Keeps es fs → AddsLines fs (LineWhere told_size place not_exhaustive (Accepted m left)) mid.lines new.lines → new.met ≡ mid.met →
     ((d : Document) → (accepts c d made ≡ true) ↔ AcceptedBySome m ss d) →
-    (S : Scope) (e : Expression) → ScopeStands (program_tree p) S a vs → ComesBehind (program_tree p) S e [] (Accepted a first) → AreClausesWalked (program_tree p) S place e (clauses_in p cs) c fs old new made
-clauses_loop_end p patterns place a b m c vs ws ds es fs old mid new cs n ss first left made r none h g exact k adds united S e stands comes =
-    let P : ProgramTree = program_tree p in
-    let y = going_on P S place e (clauses_in p cs) (clauses_in p (drop n cs)) (Remains b patterns r) (Accepted m left) b m es old mid ss g h.there exact (h.walked S e stands comes) in
-    clauses_end P S place e (clauses_in p cs) (clauses_in p (drop n cs)) (Accepted m left) m c es fs old mid new ss made (ap (clauses_in p) none) k y adds united
+    (S : Scope) (e : Expression) → ScopeStands (program_tree p) S a vs → ComesBehind (program_tree p) S e [] (Accepted a first) → AreClausesWalked p S place e (clauses_in p cs) c fs old new made
+clauses_loop_end p patterns place a b m c vs ws ds es fs old mid new cs n ss first left made r none h g grown exact k adds met united S e stands comes =
+    let y = going_on p S place e (clauses_in p cs) (clauses_in p (drop n cs)) (Remains b patterns r) (Accepted m left) b m es old mid ss g h.there exact (h.walked S e stands comes) in
+    clauses_end p S place e (clauses_in p cs) (clauses_in p (drop n cs)) (Accepted m left) m c es fs old mid new ss made (ap (clauses_in p) none) grown k y adds met united

@@ -7,49 +7,52 @@ use Rattle.xd_doc.proofs.StoredLemmas.{Keeps-same, Keeps-trans}
 use Rattle.xd_auto.specs.Automaton.{Automaton}
 use Rattle.xd_syntax.specs.Kept.{ProgramTable, function_definition, program_tree}
 use Rattle.xd_syntax.specs.FunctionRow.{FunctionRow}
-use Rattle.xd_syntax.specs.CheckFaults.{Line, LinesOfFunction, LinesOfFunctions}
-use Rattle.xd_check_steps.specs.declared.lines.FoundLine.{FoundLine}
-use Rattle.xd_check_steps.specs.FoundLines.{AddsLines, told_size}
-use Rattle.xd_syntax.specs.Program.{names_of}
+use Rattle.xd_check_steps.specs.Found.{AddsFound, Found, Seen, followed}
+use Rattle.xd_syntax.specs.Program.{FunctionDefinition, ProgramTree, names_of}
 use Rattle.xd_meaning.specs.KeptFaults.{AllPaired}
 use Rattle.xd_check_steps.specs.declared.signatures.Signature.{Signature}
 use Rattle.xd_check_steps.specs.Signed.{IsSignature}
-use Rattle.xd_check.specs.Ready.{AddsLinesOfFunction}
+use Rattle.xd_check.specs.Ready.{AddsFoundOfFunction}
+use Rattle.xd_check.specs.Walked.{SeenInFunction, SeenInFunctions}
 use Rattle.xd_check_steps.specs.States.{Grows}
-use Rattle.xd_check_steps.proofs.AddsLinesLemmas.{Goes, goes_begin, goes_end, goes_more}
+use Rattle.xd_check_steps.proofs.AddsFoundLemmas.{Goes, goes_all, goes_begin, goes_more}
 use Rattle.xd_check_steps.proofs.GrowsLemmas.{grows_none, grows_then}
-use Rattle.xd_check_steps.proofs.LineLists.{adds_none}
 
 -- the functions from the n-th on are still to be walked
-pub record FunctionsLoop (p : ProgramTable) (a b : Automaton) (ds es : List Document) (old new : List FoundLine) (n : ℕ) : Type 0 where
+pub record FunctionsLoop (p : ProgramTable) (a b : Automaton) (ds es : List Document) (old new : Found) (n : ℕ) : Type 0 where
   pub grows : Grows a b
   pub keeps : Keeps ds es
-  pub lines : AddsLines es (Goes (LinesOfFunctions told_size (program_tree p) (map (function_definition p) (drop n p.functions))) (LinesOfFunctions told_size (program_tree p) (map (function_definition p) p.functions))) old new
+  pub found : AddsFound p b es (Goes (SeenInFunctions (program_tree p) (map (function_definition p) (drop n p.functions))) (SeenInFunctions (program_tree p) (map (function_definition p) p.functions))) old new
 
-pub functions_begin : (p : ProgramTable) (a : Automaton) (ds : List Document) (ls : List FoundLine) → FunctionsLoop p a a ds ds ls ls 0
-functions_begin p a ds ls = record { grows = grows_none a; keeps = Keeps-same ds; lines = goes_begin ds (LinesOfFunctions told_size (program_tree p) (map (function_definition p) p.functions)) ls ls refl }
+pub functions_begin : (p : ProgramTable) (a : Automaton) (ds : List Document) (f : Found) → FunctionsLoop p a a ds ds f f 0
+functions_begin p a ds f = record { grows = grows_none a; keeps = Keeps-same ds; found = goes_begin (SeenInFunctions (program_tree p) (map (function_definition p) p.functions)) f }
 
-pub functions_more : (p : ProgramTable) (a b c : Automaton) (ds es fs : List Document) (old mid new : List FoundLine) (n : ℕ) (f : FunctionRow) → FunctionsLoop p a b ds es old mid n → n < length p.functions → f ≡ get_or p.functions n f →
-    AddsLinesOfFunction p n fs mid new → Grows b c → Keeps es fs → FunctionsLoop p a c ds fs old new (n + 1)
+function_seen : (P : ProgramTree) (f : FunctionDefinition) (fs : List FunctionDefinition) (s t : Seen) → SeenInFunction P f s → SeenInFunctions P fs t → SeenInFunctions P (f ∷ fs) (followed s t)
+function_seen P f fs s t x y = ((s.lines, t.lines, x.0, y.0, refl), (s.matches, t.matches, x.1, y.1, refl))
+
+pub functions_more : (p : ProgramTable) (a b c : Automaton) (ds es fs : List Document) (old mid new : Found) (n : ℕ) (f : FunctionRow) → FunctionsLoop p a b ds es old mid n → n < length p.functions → f ≡ get_or p.functions n f →
+    AddsFoundOfFunction p n c fs mid new → Grows b c → Keeps es fs → FunctionsLoop p a c ds fs old new (n + 1)
 functions_more p a b c ds es fs old mid new n f h l e x g k =
+    let P : ProgramTree = program_tree p in
     let d : drop n p.functions ≡ f ∷ drop (n + 1) p.functions = drop_more p.functions n f l ∙ ap (λ y. y ∷ drop (n + 1) p.functions) (sym e) in
-    let whole : List Line → Type 0 = LinesOfFunctions told_size (program_tree p) (map (function_definition p) p.functions) in
-    let y : AddsLines es (Goes (LinesOfFunctions told_size (program_tree p) (map (function_definition p) (f ∷ drop (n + 1) p.functions))) whole) old mid
-    = subst (λ (rs : List FunctionRow). AddsLines es (Goes (LinesOfFunctions told_size (program_tree p) (map (function_definition p) rs)) whole) old mid) d h.lines in
+    let whole : Seen → Type 0 = SeenInFunctions P (map (function_definition p) p.functions) in
+    let left : List FunctionDefinition = map (function_definition p) (drop (n + 1) p.functions) in
+    let y : AddsFound p b es (Goes (SeenInFunctions P (function_definition p f ∷ left)) whole) old mid
+    = subst (λ (rs : List FunctionRow). AddsFound p b es (Goes (SeenInFunctions P (map (function_definition p) rs)) whole) old mid) d h.found in
     record {
       grows = grows_then a b c h.grows g;
       keeps = Keeps-trans ds es fs h.keeps k;
-      lines = goes_more es fs k (LinesOfFunctions told_size (program_tree p) (map (function_definition p) (f ∷ drop (n + 1) p.functions))) (LinesOfFunction told_size (program_tree p) (function_definition p f))
-          (LinesOfFunctions told_size (program_tree p) (map (function_definition p) (drop (n + 1) p.functions))) whole old mid new y (x f e) (λ ls ms u v. (ls, ms, u, v, refl));
+      found = goes_more g k (SeenInFunctions P (function_definition p f ∷ left)) (SeenInFunction P (function_definition p f)) (SeenInFunctions P left) whole (function_seen P (function_definition p f) left) y (x f e);
     }
 
-pub functions_end : (p : ProgramTable) (a b : Automaton) (ds es : List Document) (old new : List FoundLine) (n : ℕ) → drop n p.functions ≡ [] → FunctionsLoop p a b ds es old new n →
-    AddsLines es (LinesOfFunctions told_size (program_tree p) (map (function_definition p) p.functions)) old new
+pub functions_end : (p : ProgramTable) (a b : Automaton) (ds es : List Document) (old new : Found) (n : ℕ) → drop n p.functions ≡ [] → FunctionsLoop p a b ds es old new n →
+    AddsFound p b es (SeenInFunctions (program_tree p) (map (function_definition p) p.functions)) old new
 functions_end p a b ds es old new n d h =
-    let whole : List Line → Type 0 = LinesOfFunctions told_size (program_tree p) (map (function_definition p) p.functions) in
-    let y : AddsLines es (Goes (LinesOfFunctions told_size (program_tree p) []) whole) old new
-    = subst (λ (rs : List FunctionRow). AddsLines es (Goes (LinesOfFunctions told_size (program_tree p) (map (function_definition p) rs)) whole) old new) d h.lines in
-    goes_end es es (Keeps-same es) (LinesOfFunctions told_size (program_tree p) []) whole old new new y (adds_none es (λ ls. ls ≡ []) refl new)
+    let P : ProgramTree = program_tree p in
+    let whole : Seen → Type 0 = SeenInFunctions P (map (function_definition p) p.functions) in
+    let y : AddsFound p b es (Goes (SeenInFunctions P []) whole) old new
+    = subst (λ (rs : List FunctionRow). AddsFound p b es (Goes (SeenInFunctions P (map (function_definition p) rs)) whole) old new) d h.found in
+    goes_all (SeenInFunctions P []) whole (refl, refl) y
 
 pub function_at : (fs : List FunctionRow) (n : ℕ) → n < length fs → FunctionRow
 function_at [] n l = absurd (omega arith)

@@ -1,41 +1,44 @@
 -- What the walk of an expression gives, from what those of its parts give.
-use Rattle.std.proofs.Common.{◌≡◌, ◌↔◌, ℕ, true, ◌&&◌, List, [], ◌∷◌, ◌++◌, refl, ap, sym, subst, ◌∙◌, append-nil}
+use Rattle.std.proofs.Common.{◌≡◌, ◌↔◌, ℕ, true, ◌&&◌, List, [], ◌∷◌, ◌++◌, refl, ap, sym, subst, ◌∙◌}
 use Rattle.std.specs.List.{AllByRecursion}
 use Rattle.xd_base.specs.declared.Place.{Place}
 use Rattle.xd_doc.specs.Word.{is_word}
 use Rattle.xd_doc.specs.Document.{Document, empty, text, element, join, is_proper}
 use Rattle.xd_doc.proofs.Bools.{and_parts}
+use Rattle.xd_doc.proofs.StoredLemmas.{Keeps-same}
 use Rattle.xd_doc.proofs.Joins.{join_empty-right}
 use Rattle.xd_auto.specs.declared.auto.State.{State}
 use Rattle.xd_auto.specs.Automaton.{Automaton, IsState, IsWrapped, accepts}
 use Rattle.xd_syntax.specs.Expression.{Expression, Nothing, Quoted, Variable, Tagged, place_of_expression, joined}
 use Rattle.xd_syntax.specs.Program.{ProgramTree}
 use Rattle.xd_syntax.specs.May.{Scope, May, IsTagged}
-use Rattle.xd_syntax.specs.CheckFaults.{Line, LinesOf}
-use Rattle.xd_check_steps.specs.FoundLines.{told_size}
+use Rattle.xd_syntax.specs.Kept.{ProgramTable, program_tree}
+use Rattle.xd_check_steps.specs.Found.{Found, Seen, followed}
 use Rattle.xd_meaning.specs.KeptFaults.{AllPaired}
 use Rattle.xd_laws.proofs.BoundVariables.{proper_joined}
-use Rattle.xd_check_steps.specs.declared.lines.FoundLine.{FoundLine}
 use Rattle.xd_check_steps.specs.declared.variables.Variable as V
 use Rattle.xd_check_steps.specs.InScope.{AcceptedBy, ScopeStands, state_of}
 use Rattle.xd_check_steps.specs.States.{AcceptedInTurn, AcceptsJust, Grows}
-use Rattle.xd_check.specs.Walked.{ArePartsWalked, IsWalked, LinesOfParts}
-use Rattle.xd_check_steps.proofs.LineLists.{adds_as, adds_none}
+use Rattle.xd_check.specs.Walked.{ArePartsWalked, IsWalked, SeenIn, SeenInParts}
+use Rattle.xd_check_steps.proofs.AddsFoundLemmas.{adds_as, adds_kept, adds_none, followed_none}
 use Rattle.xd_check_steps.proofs.GrowsLemmas.{just_kept}
 
-pub walked_nothing : (P : ProgramTree) (S : Scope) (q : Place) (a : Automaton) (ds : List Document) (ls : List FoundLine) (s : State) → ((d : Document) → (accepts a d s ≡ true) ↔ (d ≡ empty)) →
-    IsWalked P S (Nothing q) a ds ls ls s
-walked_nothing P S q a ds ls s h = record { may = λ d p. h d; lines = adds_none ds (λ ms. ms ≡ []) refl ls }
+abbrev JustNone : Seen → Type 0
+JustNone s = (s.lines ≡ []) × (s.matches ≡ [])
 
-pub walked_quoted : (P : ProgramTree) (S : Scope) (q : Place) (t : List ℕ) (a : Automaton) (ds : List Document) (ls : List FoundLine) (s : State) →
-    ((d : Document) → (accepts a d s ≡ true) ↔ (d ≡ text t empty)) → IsWalked P S (Quoted q t) a ds ls ls s
-walked_quoted P S q t a ds ls s h = record { may = λ d p. h d; lines = adds_none ds (λ ms. ms ≡ []) refl ls }
+pub walked_nothing : (p : ProgramTable) (S : Scope) (q : Place) (a : Automaton) (ds : List Document) (f : Found) (s : State) → ((d : Document) → (accepts a d s ≡ true) ↔ (d ≡ empty)) →
+    IsWalked p S (Nothing q) a ds f f s
+walked_nothing p S q a ds f s h = record { may = λ d i. h d; found = adds_none JustNone (refl, refl) f }
 
-pub walked_variable : (P : ProgramTree) (S : Scope) (q : Place) (x : List ℕ) (a b : Automaton) (vs : List V.Variable) (ds : List Document) (ls : List FoundLine) (s : State) →
-    ScopeStands P S a vs → ((d : Document) → (accepts b d s ≡ true) ↔ AcceptedBy a (state_of vs x) d) → IsWalked P S (Variable q x) b ds ls ls s
-walked_variable P S q x a b vs ds ls s stands h = record {
-  may = λ d p. ((λ m. (stands x d p).0 ((h d).0 m)), (λ m. (h d).1 ((stands x d p).1 m)));
-  lines = adds_none ds (λ ms. ms ≡ []) refl ls;
+pub walked_quoted : (p : ProgramTable) (S : Scope) (q : Place) (t : List ℕ) (a : Automaton) (ds : List Document) (f : Found) (s : State) →
+    ((d : Document) → (accepts a d s ≡ true) ↔ (d ≡ text t empty)) → IsWalked p S (Quoted q t) a ds f f s
+walked_quoted p S q t a ds f s h = record { may = λ d i. h d; found = adds_none JustNone (refl, refl) f }
+
+pub walked_variable : (p : ProgramTable) (S : Scope) (q : Place) (x : List ℕ) (a b : Automaton) (vs : List V.Variable) (ds : List Document) (f : Found) (s : State) →
+    ScopeStands (program_tree p) S a vs → ((d : Document) → (accepts b d s ≡ true) ↔ AcceptedBy a (state_of vs x) d) → IsWalked p S (Variable q x) b ds f f s
+walked_variable p S q x a b vs ds f s stands h = record {
+  may = λ d i. ((λ m. (stands x d i).0 ((h d).0 m)), (λ m. (h d).1 ((stands x d i).1 m)));
+  found = adds_none JustNone (refl, refl) f;
 }
 
 tagged_from : (l : List ℕ) (A : Document → Type 0) (a : Automaton) (s : State) → AcceptsJust a s A → (d : Document) → is_proper d ≡ true → IsWrapped a l s d → IsTagged l A d
@@ -53,11 +56,11 @@ tagged_to l A a s h (element k c r) p m =
     let j = and_parts (is_proper c) (is_proper r) i.1 in
     record { inside = c; is = ap (λ w. element w c r) m.0 ∙ ap (element l c) m.1; accepted = (h c j.0).1 m.2 }
 
-pub walked_tagged : (P : ProgramTree) (S : Scope) (q : Place) (l : List ℕ) (e : Expression) (a b : Automaton) (ds : List Document) (old new : List FoundLine) (s t : State) →
-    IsWalked P S e a ds old new s → ((d : Document) → (accepts b d t ≡ true) ↔ IsWrapped a l s d) → IsWalked P S (Tagged q l e) b ds old new t
-walked_tagged P S q l e a b ds old new s t w h = record {
-  may = λ d p. ((λ m. tagged_from l (May P S e) a s w.may d p ((h d).0 m)), (λ m. (h d).1 (tagged_to l (May P S e) a s w.may d p m)));
-  lines = w.lines;
+pub walked_tagged : (p : ProgramTable) (S : Scope) (q : Place) (l : List ℕ) (e : Expression) (a b : Automaton) (ds : List Document) (old new : Found) (s t : State) →
+    Grows a b → IsWalked p S e a ds old new s → ((d : Document) → (accepts b d t ≡ true) ↔ IsWrapped a l s d) → IsWalked p S (Tagged q l e) b ds old new t
+walked_tagged p S q l e a b ds old new s t g w h = record {
+  may = λ d i. ((λ m. tagged_from l (May (program_tree p) S e) a s w.may d i ((h d).0 m)), (λ m. (h d).1 (tagged_to l (May (program_tree p) S e) a s w.may d i m)));
+  found = adds_kept g (Keeps-same ds) (SeenIn (program_tree p) S e) w.found;
 }
 
 abbrev PairsMay : ProgramTree → Scope → Automaton → List Expression → List State → Type 0
@@ -86,16 +89,20 @@ turn_to P S q a (e ∷ (f ∷ fs)) (s ∷ ss) h d p m =
     let k = proper_joined m.0 m.1 (ap is_proper m.2 ∙ p) in
     (m.0, m.1, m.2, (h.0 m.0 k.0).1 m.3, turn_to P S (place_of_expression f) a (f ∷ fs) ss h.1 m.1 k.1 m.4)
 
-lines_joined : (P : ProgramTree) (S : Scope) (q : Place) (es : List Expression) (ls : List Line) → LinesOfParts P S es ls → LinesOf told_size P S (joined q es) ls
-lines_joined P S q [] ls h = h
-lines_joined P S q (e ∷ []) ls h = subst (LinesOf told_size P S e) (sym (h.4 ∙ ap (λ ms. h.0 ++ ms) h.3 ∙ append-nil h.0)) h.2
-lines_joined P S q (e ∷ (f ∷ fs)) ls h = (h.0, h.1, h.2, lines_joined P S (place_of_expression f) (f ∷ fs) h.1 h.3, h.4)
+seen_joined : (P : ProgramTree) (S : Scope) (q : Place) (es : List Expression) (s : Seen) → SeenInParts P S es s → SeenIn P S (joined q es) s
+seen_joined P S q [] s h = (ap (λ (t : Seen). t.lines) h, ap (λ (t : Seen). t.matches) h)
+seen_joined P S q (e ∷ []) s h = subst (SeenIn P S e) (sym (h.4 ∙ ap (followed h.0) h.3 ∙ followed_none h.0)) h.2
+seen_joined P S q (e ∷ (f ∷ fs)) s h =
+    let r = seen_joined P S (place_of_expression f) (f ∷ fs) h.1 h.3 in (
+      ((h.0).lines, (h.1).lines, (h.2).0, r.0, ap (λ (t : Seen). t.lines) h.4),
+      ((h.0).matches, (h.1).matches, (h.2).1, r.1, ap (λ (t : Seen). t.matches) h.4),
+    )
 
-pub walked_joined : (P : ProgramTree) (S : Scope) (q : Place) (es : List Expression) (a b : Automaton) (ds : List Document) (old new : List FoundLine) (ss : List State) (t : State) →
-    ArePartsWalked P S es a ds old new ss → ((d : Document) → (accepts b d t ≡ true) ↔ AcceptedInTurn a ss d) → IsWalked P S (joined q es) b ds old new t
-walked_joined P S q es a b ds old new ss t w h = record {
-  may = λ d p. ((λ m. turn_from P S q a es ss w.may d p ((h d).0 m)), (λ m. (h d).1 (turn_to P S q a es ss w.may d p m)));
-  lines = adds_as ds (LinesOfParts P S es) (LinesOf told_size P S (joined q es)) (lines_joined P S q es) old new w.lines;
+pub walked_joined : (p : ProgramTable) (S : Scope) (q : Place) (es : List Expression) (a b : Automaton) (ds : List Document) (old new : Found) (ss : List State) (t : State) →
+    Grows a b → ArePartsWalked p S es a ds old new ss → ((d : Document) → (accepts b d t ≡ true) ↔ AcceptedInTurn a ss d) → IsWalked p S (joined q es) b ds old new t
+walked_joined p S q es a b ds old new ss t g w h = record {
+  may = λ d i. ((λ m. turn_from (program_tree p) S q a es ss w.may d i ((h d).0 m)), (λ m. (h d).1 (turn_to (program_tree p) S q a es ss w.may d i m)));
+  found = adds_as (SeenInParts (program_tree p) S es) (SeenIn (program_tree p) S (joined q es)) (seen_joined (program_tree p) S q es) (adds_kept g (Keeps-same ds) (SeenInParts (program_tree p) S es) w.found);
 }
 
 pub pairs_kept : (P : ProgramTree) (S : Scope) (a b : Automaton) → Grows a b → (es : List Expression) (ss : List State) → AllByRecursion (IsState a) ss → PairsMay P S a es ss → PairsMay P S b es ss

@@ -6,12 +6,11 @@ use Rattle.xd_auto.specs.Automaton.{Automaton}
 use Rattle.xd_syntax.specs.Kept.{ProgramTable, function_definition, program_tree}
 use Rattle.xd_syntax.specs.FunctionRow.{FunctionRow}
 use Rattle.xd_syntax.specs.Program.{names_of}
-use Rattle.xd_syntax.specs.CheckFaults.{LinesOfFunction}
 use Rattle.xd_patterns.specs.Compiler.{Serves}
 use Rattle.xd_clauses.specs.Compiled.{ArePatterns}
-use Rattle.xd_check_steps.specs.FoundLines.{AddsLines, told_size}
-use Rattle.xd_check_steps.specs.declared.lines.FoundLine.{FoundLine}
+use Rattle.xd_check_steps.specs.Found.{AddsFound, Found}
 use Rattle.xd_check_steps.specs.Signed.{AreSignatures}
+use Rattle.xd_check.specs.Walked.{SeenInFunction}
 use Rattle.xd_check.specs.declared.checker.Checker.{Checker}
 
 pub record IsReady (c : Checker) (a : Automaton) : Type 0 where
@@ -20,6 +19,6 @@ pub record IsReady (c : Checker) (a : Automaton) : Type 0 where
   pub points : ServesOn a c.patterns
   pub signatures : AreSignatures (program_tree c.sound) a c.signatures
 
--- the lines of the function of this number were added
-abbrev pub AddsLinesOfFunction : ProgramTable → ℕ → List Document → List FoundLine → List FoundLine → Type 0
-AddsLinesOfFunction p n ds old new = (f : FunctionRow) → f ≡ get_or p.functions n f → AddsLines ds (LinesOfFunction told_size (program_tree p) (function_definition p f)) old new
+-- what the function of this number has was added
+abbrev pub AddsFoundOfFunction : ProgramTable → ℕ → Automaton → List Document → Found → Found → Type 0
+AddsFoundOfFunction p n a ds old new = (f : FunctionRow) → f ≡ get_or p.functions n f → AddsFound p a ds (SeenInFunction (program_tree p) (function_definition p f)) old new

@@ -9,10 +9,11 @@ ghost use Rattle.xd_syntax.specs.PlacedTable.{placed_at};
 ghost use Rattle.xd_syntax.specs.Patterns.{IsPattern};
 ghost use Rattle.xd_syntax.specs.Exprs.{IsExpr};
 ghost use Rattle.xd_syntax.specs.Expression.{place_of_expression};
-ghost use Rattle.xd_syntax.specs.CheckFaults.{LineWhere, LinesOfFunction, LinesOfFunctions, wrong_result};
+ghost use Rattle.xd_syntax.specs.CheckFaults.{LineWhere, wrong_result};
 ghost use Rattle.xd_syntax.specs.Program.{names_of};
 ghost use Rattle.xd_patterns.specs.Compiler.{Serves};
 ghost use Rattle.xd_clauses.specs.Compiled.{ArePatterns};
+ghost use Rattle.xd_check_steps.specs.Found.{AddsFound, found_in};
 ghost use Rattle.xd_check_steps.specs.FoundLines.{AddsLines, told_size};
 ghost use Rattle.xd_check_steps.specs.InScope.{parameters_in_scope};
 ghost use Rattle.xd_check_steps.specs.Known.{IsKnown};
@@ -46,7 +47,8 @@ pub struct Checker {
 }
 
 impl Checker {
-    ghost use Rattle.xd_check.specs.Ready.{AddsLinesOfFunction, IsReady};
+    ghost use Rattle.xd_check.specs.Ready.{AddsFoundOfFunction, IsReady};
+    ghost use Rattle.xd_check.specs.Walked.{SeenInFunction, SeenInFunctions};
     ghost use Rattle.xd_check_steps.specs.Walkable.{CanBeWalked, expr_at};
     ghost use Rattle.xd_check_steps.specs.Signed.{IsSignatureOfRow};
     ghost use Rattle.xd_check_steps.specs.States.{Grows, IsMisfit};
@@ -92,8 +94,8 @@ impl Checker {
         self.sound.program().patterns().node(id).place()
     }
 
-    /// The lines of all functions.
-    pub(crate) fn in_functions(
+    /// The lines and the matches of all functions.
+    pub fn in_functions(
         &self,
         auto: &mut Auto,
         findings: &mut Findings,
@@ -101,7 +103,9 @@ impl Checker {
     ) -> Result<(), NoMemory>
         requires ready { IsReady self.now auto.old }
         requires known { IsKnown auto.old store.old findings.old.known }
-        ensures lines { OnOk result (AddsLines store.new (LinesOfFunctions told_size (program_tree self.now.sound) (program_tree self.now.sound).functions) findings.old.lines.items findings.new.lines.items) }
+        ensures found { OnOk result (AddsFound self.now.sound auto.new store.new (SeenInFunctions (program_tree self.now.sound) (program_tree self.now.sound).functions) (found_in findings.old) (found_in findings.new)) }
+        ensures grows { OnOk result (Grows auto.old auto.new) }
+        ensures known { OnOk result (IsKnown auto.new store.new findings.new.known) }
         ensures keeps { Keeps store.old store.new }
     {
         let functions = self.sound.program().functions();
@@ -111,7 +115,7 @@ impl Checker {
         Ok(())
     }
 
-    /// The lines of the function of this number.
+    /// Those of the function of this number.
     fn in_function(
         &self,
         number: usize,
@@ -122,7 +126,7 @@ impl Checker {
         requires ready { IsReady self.now auto.old }
         requires number { number < length self.now.sound.functions }
         requires known { IsKnown auto.old store.old findings.old.known }
-        ensures lines { OnOk result (AddsLinesOfFunction self.now.sound number store.new findings.old.lines.items findings.new.lines.items) }
+        ensures found { OnOk result (AddsFoundOfFunction self.now.sound number auto.new store.new (found_in findings.old) (found_in findings.new)) }
         ensures grows { OnOk result (Grows auto.old auto.new) }
         ensures known { OnOk result (IsKnown auto.new store.new findings.new.known) }
         ensures keeps { Keeps store.old store.new }
@@ -147,7 +151,7 @@ impl Checker {
         requires body { CanBeWalked self.now.sound function.now.body.at }
         requires signature { IsSignatureOfRow self.now.sound auto.old function.now signature.now }
         requires known { IsKnown auto.old store.old findings.old.known }
-        ensures lines { OnOk result (AddsLines store.new (LinesOfFunction told_size (program_tree self.now.sound) (function_definition self.now.sound function.now)) findings.old.lines.items findings.new.lines.items) }
+        ensures found { OnOk result (AddsFound self.now.sound auto.new store.new (SeenInFunction (program_tree self.now.sound) (function_definition self.now.sound function.now)) (found_in findings.old) (found_in findings.new)) }
         ensures grows { OnOk result (Grows auto.old auto.new) }
         ensures known { OnOk result (IsKnown auto.new store.new findings.new.known) }
         ensures keeps { Keeps store.old store.new }
@@ -174,6 +178,7 @@ impl Checker {
         requires wanted { IsState auto.now wanted }
         requires known { IsKnown auto.now store.old findings.old.known }
         ensures lines { OnOk result (AddsLines store.new (LineWhere told_size (place_of_expression (expr_at self.now.sound body.at)) wrong_result (IsMisfit auto.now state wanted)) findings.old.lines.items findings.new.lines.items) }
+        ensures met { findings.new.met.items ≡ findings.old.met.items }
         ensures known { OnOk result (IsKnown auto.now store.new findings.new.known) }
         ensures keeps { Keeps store.old store.new }
     {
@@ -217,7 +222,7 @@ fn compile(
 }
 
 /// The parameters of a function in scope, the first one as the newest.
-pub fn parameters(alloc: Global, params: &[Param], states: &[State]) -> Result<Variables, NoMemory>
+fn parameters(alloc: Global, params: &[Param], states: &[State]) -> Result<Variables, NoMemory>
     requires { length params.now ≡ length states.now }
     ensures { IfOk result (λ variables. variables ≡ parameters_in_scope params.now states.now) }
 {

@@ -1,4 +1,4 @@
-//! Expressions: a state for what each may be, and the lines in it.
+//! Expressions: a state for what each may be, and the lines and the matches in it.
 //!
 //! The nodes are walked by recursion, no deeper than expressions stand in one another.
 
@@ -14,29 +14,31 @@ ghost use Rattle.std.specs.Option.{IfSome};
 ghost use Rattle.xd_syntax.specs.Program.{Parameter, function_of, names_of};
 ghost use Rattle.xd_syntax.specs.Table.{tree_at};
 ghost use Rattle.xd_syntax.specs.May.{FitsResult, Scope};
-ghost use Rattle.xd_syntax.specs.CheckFaults.{LinesOfArguments, parameters_of};
+ghost use Rattle.xd_syntax.specs.CheckFaults.{parameters_of};
 ghost use Rattle.xd_syntax.specs.Expression.{Expression, arguments_of, place_of_expression};
 ghost use Rattle.xd_syntax.specs.ExpressionTable.{clauses_of};
 ghost use Rattle.xd_syntax.specs.Exprs.{IsExpr, clause_numbers, expr_numbers};
 ghost use Rattle.xd_points.specs.Meaning.{ServePoints};
 ghost use Rattle.xd_clauses.specs.Clauses.{Accepted};
 ghost use Rattle.xd_clauses.specs.Compiled.{IsNumbered};
-ghost use Rattle.xd_check_steps.specs.FoundLines.{AddsLines, told_size};
+ghost use Rattle.xd_check_steps.specs.Found.{AddsFound, found_in};
+ghost use Rattle.xd_check_steps.specs.FoundLines.{AddsLines};
 ghost use Rattle.xd_check_steps.specs.InScope.{AreStates, ScopeStands};
 ghost use Rattle.xd_check_steps.specs.Known.{IsKnown};
 ghost use Rattle.xd_check_steps.specs.Signed.{AreParameters};
 ghost use Rattle.xd_check_steps.specs.Walkable.{CanBeWalked, ClauseCanBeWalked, expr_at};
 ghost use Rattle.xd_check_steps.specs.Clauses.{IsCompiledMatch};
 ghost use Rattle.xd_check.specs.Ready.{IsReady};
-ghost use Rattle.xd_check.specs.Walked.{AreClausesWalked, ArePartsWalked, ComesBehind, ComesTo, IsClauseWalked, IsWalked, LinesOfArgument};
+ghost use Rattle.xd_check.specs.Walked.{AreClausesWalked, ArePartsWalked, ComesBehind, ComesTo, IsClauseWalked, IsWalked, LinesOfArgument, SeenInArguments};
 ghost use Rattle.xd_check_steps.specs.States.{Grows};
 
 use crate::checker::Checker;
+use std::mem;
 use xd_auto::{Auto, State};
 use xd_check_steps::{
     CompiledClause, CompiledMatch, Finding, Findings, FoundLine, MatchClauses, MatchPatterns,
-    Variables, bring_in, join_states, misfit, pass_found, see_uncovered, text_state, unite_states,
-    variable_state,
+    MetMatch, Variables, bring_in, join_states, meet_before, misfit, pass_found, see_uncovered,
+    text_state, unite_states, variable_state,
 };
 use xd_clauses::Remaining;
 use xd_doc::{Label, NoMemory, Store};
@@ -50,9 +52,10 @@ fn parameter_state(parameters: &[State], number: usize) -> Option<State>
 }
 
 impl Checker {
-    /// A state that accepts what the expression may be. Its lines are added to the others.
+    /// A state that accepts what the expression may be. Its lines and its matches are added to the
+    /// others.
     #[cycle(expressions)]
-    pub fn in_expression(
+    pub(crate) fn in_expression(
         &self,
         id: ExprId,
         variables: &mut Variables,
@@ -65,7 +68,7 @@ impl Checker {
         requires variables { AreStates auto.old variables.old }
         requires known { IsKnown auto.old store.old findings.old.known }
         ensures belongs { IfOk result (IsState auto.new) }
-        ensures walked { IfOk result (λ state. (S : Scope) → ScopeStands (program_tree self.now.sound) S auto.old variables.old → IsWalked (program_tree self.now.sound) S (expr_at self.now.sound id.at) auto.new store.new findings.old.lines.items findings.new.lines.items state) }
+        ensures walked { IfOk result (λ state. (S : Scope) → ScopeStands (program_tree self.now.sound) S auto.old variables.old → IsWalked self.now.sound S (expr_at self.now.sound id.at) auto.new store.new (found_in findings.old) (found_in findings.new) state) }
         ensures variables { OnOk result (variables.new ≡ variables.old) }
         ensures grows { OnOk result (Grows auto.old auto.new) }
         ensures known { OnOk result (IsKnown auto.new store.new findings.new.known) }
@@ -89,9 +92,16 @@ impl Checker {
             }
             ExprForm::Match(scrutinee, clauses) => {
                 let place = node.place();
-                let value = self.in_expression(*scrutinee, variables, auto, findings, store)?;
+                let earlier = mem::replace(&mut findings.met, Vec::new(self.alloc));
+                let state = self.in_expression(*scrutinee, variables, auto, findings, store)?;
+                let found = MetMatch {
+                    expr: id,
+                    place,
+                    state,
+                };
+                meet_before(earlier, found, &mut findings.met)?;
                 let matched = MatchClauses { place, clauses };
-                Ok(self.in_clauses(matched, value, variables, auto, findings, store)?)
+                Ok(self.in_clauses(matched, state, variables, auto, findings, store)?)
             }
         }
     }
@@ -111,7 +121,7 @@ impl Checker {
         requires variables { AreStates auto.old variables.old }
         requires known { IsKnown auto.old store.old findings.old.known }
         ensures belong { IfOk result (λ states. AllByRecursion (IsState auto.new) states.items) }
-        ensures walked { IfOk result (λ states. (S : Scope) → ScopeStands (program_tree self.now.sound) S auto.old variables.old → ArePartsWalked (program_tree self.now.sound) S (map (expr_at self.now.sound) (expr_numbers parts.now)) auto.new store.new findings.old.lines.items findings.new.lines.items states.items) }
+        ensures walked { IfOk result (λ states. (S : Scope) → ScopeStands (program_tree self.now.sound) S auto.old variables.old → ArePartsWalked self.now.sound S (map (expr_at self.now.sound) (expr_numbers parts.now)) auto.new store.new (found_in findings.old) (found_in findings.new) states.items) }
         ensures variables { OnOk result (variables.new ≡ variables.old) }
         ensures grows { OnOk result (Grows auto.old auto.new) }
         ensures known { OnOk result (IsKnown auto.new store.new findings.new.known) }
@@ -143,7 +153,7 @@ impl Checker {
         requires known { IsKnown auto.old store.old findings.old.known }
         ensures belongs { IfOk result (IsState auto.new) }
         ensures result { IfOk result (λ state. (d : Document) → (accepts auto.new d state ≡ true) ↔ FitsResult (names_of (program_tree self.now.sound)) (function_of (program_tree self.now.sound).functions word.now) d) }
-        ensures lines { OnOk result ((S : Scope) → ScopeStands (program_tree self.now.sound) S auto.old variables.old → AddsLines store.new (LinesOfArguments told_size (program_tree self.now.sound) S (parameters_of (function_of (program_tree self.now.sound).functions word.now)) (arguments_of (map (expr_at self.now.sound) (expr_numbers arguments.now)))) findings.old.lines.items findings.new.lines.items) }
+        ensures found { OnOk result ((S : Scope) → ScopeStands (program_tree self.now.sound) S auto.old variables.old → AddsFound self.now.sound auto.new store.new (SeenInArguments (program_tree self.now.sound) S (parameters_of (function_of (program_tree self.now.sound).functions word.now)) (arguments_of (map (expr_at self.now.sound) (expr_numbers arguments.now)))) (found_in findings.old) (found_in findings.new)) }
         ensures variables { OnOk result (variables.new ≡ variables.old) }
         ensures grows { OnOk result (Grows auto.old auto.new) }
         ensures known { OnOk result (IsKnown auto.new store.new findings.new.known) }
@@ -162,7 +172,7 @@ impl Checker {
         }
     }
 
-    /// The lines of arguments, where the parameters' types have these states.
+    /// The lines and the matches of arguments, where the parameters' types have these states.
     #[cycle(expressions)]
     fn in_arguments(
         &self,
@@ -178,7 +188,7 @@ impl Checker {
         requires parameters { AllByRecursion (IsState auto.old) parameters.now }
         requires variables { AreStates auto.old variables.old }
         requires known { IsKnown auto.old store.old findings.old.known }
-        ensures lines { OnOk result ((S : Scope) (qs : List Parameter) → ScopeStands (program_tree self.now.sound) S auto.old variables.old → AreParameters (names_of (program_tree self.now.sound)) auto.old qs parameters.now → AddsLines store.new (LinesOfArguments told_size (program_tree self.now.sound) S qs (arguments_of (map (expr_at self.now.sound) (expr_numbers arguments.now)))) findings.old.lines.items findings.new.lines.items) }
+        ensures found { OnOk result ((S : Scope) (qs : List Parameter) → ScopeStands (program_tree self.now.sound) S auto.old variables.old → AreParameters (names_of (program_tree self.now.sound)) auto.old qs parameters.now → AddsFound self.now.sound auto.new store.new (SeenInArguments (program_tree self.now.sound) S qs (arguments_of (map (expr_at self.now.sound) (expr_numbers arguments.now)))) (found_in findings.old) (found_in findings.new)) }
         ensures variables { OnOk result (variables.new ≡ variables.old) }
         ensures grows { OnOk result (Grows auto.old auto.new) }
         ensures known { OnOk result (IsKnown auto.new store.new findings.new.known) }
@@ -208,6 +218,7 @@ impl Checker {
         requires wanted { IfSome wanted (IsState auto.now) }
         requires known { IsKnown auto.now store.old findings.old.known }
         ensures lines { OnOk result (AddsLines store.new (LinesOfArgument auto.now (place_of_expression (expr_at self.now.sound argument.at)) state wanted) findings.old.lines.items findings.new.lines.items) }
+        ensures met { findings.new.met.items ≡ findings.old.met.items }
         ensures known { OnOk result (IsKnown auto.now store.new findings.new.known) }
         ensures keeps { Keeps store.old store.new }
     {
@@ -247,7 +258,7 @@ impl Checker {
         requires variables { AreStates auto.old variables.old }
         requires known { IsKnown auto.old store.old findings.old.known }
         ensures belongs { IfOk result (IsState auto.new) }
-        ensures walked { IfOk result (λ state. (S : Scope) (e : Expression) → ScopeStands (program_tree self.now.sound) S auto.old variables.old → ComesBehind (program_tree self.now.sound) S e [] (Accepted auto.old scrutinee) → AreClausesWalked (program_tree self.now.sound) S matched.entry.place e (clauses_of (placed_at self.now.sound.patterns) (expr_at self.now.sound) (clause_numbers matched.entry.clauses.now)) auto.new store.new findings.old.lines.items findings.new.lines.items state) }
+        ensures walked { IfOk result (λ state. (S : Scope) (e : Expression) → ScopeStands (program_tree self.now.sound) S auto.old variables.old → ComesBehind (program_tree self.now.sound) S e [] (Accepted auto.old scrutinee) → AreClausesWalked self.now.sound S matched.entry.place e (clauses_of (placed_at self.now.sound.patterns) (expr_at self.now.sound) (clause_numbers matched.entry.clauses.now)) auto.new store.new (found_in findings.old) (found_in findings.new) state) }
         ensures variables { OnOk result (variables.new ≡ variables.old) }
         ensures grows { OnOk result (Grows auto.old auto.new) }
         ensures known { OnOk result (IsKnown auto.new store.new findings.new.known) }
@@ -287,7 +298,7 @@ impl Checker {
         requires variables { AreStates auto.old variables.old }
         requires known { IsKnown auto.old store.old findings.old.known }
         ensures belongs { IfOk result (IsState auto.new) }
-        ensures walked { IfOk result (λ state. (S : Scope) (e : Expression) → ScopeStands (program_tree self.now.sound) S auto.old variables.old → ComesBehind (program_tree self.now.sound) S e [] (Accepted auto.old scrutinee) → AreClausesWalked (program_tree self.now.sound) S compiled.entry.place e (clauses_of (placed_at self.now.sound.patterns) (expr_at self.now.sound) (clause_numbers compiled.entry.clauses.now)) auto.new store.new findings.old.lines.items findings.new.lines.items state) }
+        ensures walked { IfOk result (λ state. (S : Scope) (e : Expression) → ScopeStands (program_tree self.now.sound) S auto.old variables.old → ComesBehind (program_tree self.now.sound) S e [] (Accepted auto.old scrutinee) → AreClausesWalked self.now.sound S compiled.entry.place e (clauses_of (placed_at self.now.sound.patterns) (expr_at self.now.sound) (clause_numbers compiled.entry.clauses.now)) auto.new store.new (found_in findings.old) (found_in findings.new) state) }
         ensures variables { OnOk result (variables.new ≡ variables.old) }
         ensures grows { OnOk result (Grows auto.old auto.new) }
         ensures known { OnOk result (IsKnown auto.new store.new findings.new.known) }
@@ -331,7 +342,7 @@ impl Checker {
         requires variables { AreStates auto.old variables.old }
         requires known { IsKnown auto.old store.old findings.old.known }
         ensures belongs { IfOk result (λ found. IfSome found (IsState auto.new)) }
-        ensures walked { IfOk result (λ found. (S : Scope) (e : Expression) (earlier : List PlacedTree) → ScopeStands (program_tree self.now.sound) S auto.old variables.old → ComesTo (program_tree self.now.sound) S e earlier (placed_at self.now.sound.patterns clause.entry.clause.pattern.at) (Accepted auto.old arriving) → IsClauseWalked (program_tree self.now.sound) S e earlier (placed_at self.now.sound.patterns clause.entry.clause.pattern.at) (expr_at self.now.sound clause.entry.clause.body.at) auto.new store.new findings.old.lines.items findings.new.lines.items found) }
+        ensures walked { IfOk result (λ found. (S : Scope) (e : Expression) (earlier : List PlacedTree) → ScopeStands (program_tree self.now.sound) S auto.old variables.old → ComesTo (program_tree self.now.sound) S e earlier (placed_at self.now.sound.patterns clause.entry.clause.pattern.at) (Accepted auto.old arriving) → IsClauseWalked self.now.sound S e earlier (placed_at self.now.sound.patterns clause.entry.clause.pattern.at) (expr_at self.now.sound clause.entry.clause.body.at) auto.new store.new (found_in findings.old) (found_in findings.new) found) }
         ensures variables { OnOk result (variables.new ≡ variables.old) }
         ensures grows { OnOk result (Grows auto.old auto.new) }
         ensures known { OnOk result (IsKnown auto.new store.new findings.new.known) }

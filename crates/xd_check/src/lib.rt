@@ -7,5 +7,5 @@ mod checker;
 mod expressions;
 mod outcome;
 
-pub use checker::{Checker, parameters};
+pub use checker::Checker;
 pub use outcome::{CheckOutcome, check};

@@ -1,5 +1,5 @@
 -- Variables of a pattern that come into scope.
-use Rattle.std.proofs.Common.{◌≡◌, ◌+◌, ◌-◌, List, [], ◌∷◌, ◌++◌, refl, ap, ◌∙◌}
+use Rattle.std.proofs.Common.{◌≡◌, List, [], ◌∷◌, ◌++◌, refl, ap, ◌∙◌}
 use Rattle.xd_bind.specs.declared.tracks.Given.{Given}
 use Rattle.xd_check_steps.specs.declared.variables.Variable.{Variable}
 use Rattle.xd_check_steps.specs.InScope.{given_variables}

@@ -1,5 +1,5 @@
 pub mod AcceptedInTurnLemmas
-pub mod AddsLinesLemmas
+pub mod AddsFoundLemmas
 pub mod AreTypeStatesLemmas
 pub mod Ceilings
 pub mod Collecting

@@ -1,6 +1,5 @@
 -- Lists of found lines.
-use Rattle.std.proofs.Common.{◌≡◌, true, List, [], ◌∷◌, ◌++◌, Some, refl, ap, sym, subst, ◌∙◌, append-nil, append_assoc, inl, inr}
-use Rattle.std.proofs.lemmas.List.{map-append}
+use Rattle.std.proofs.Common.{◌≡◌, true, List, [], ◌∷◌, ◌++◌, Some, refl, ap, sym, subst, ◌∙◌, append-nil, inl, inr}
 use Rattle.xd_base.specs.declared.Place.{Place}
 use Rattle.xd_doc.specs.Document.{Document, is_proper}
 use Rattle.xd_doc.specs.Least.{IsLeastBy}
@@ -11,7 +10,7 @@ use Rattle.xd_doc.specs.StoreNodes.{Keeps}
 use Rattle.xd_doc.specs.declared.store.Seq.{Seq}
 use Rattle.xd_doc.proofs.LeastLemmas.{least_of_part, least_told}
 use Rattle.xd_least.specs.Least.{size_limit}
-use Rattle.xd_syntax.specs.CheckFaults.{Line, LineKind, Both, IsProperWith, LineWhere}
+use Rattle.xd_syntax.specs.CheckFaults.{Line, LineKind, IsProperWith, LineWhere}
 use Rattle.xd_check_steps.specs.declared.lines.Finding.{Finding}
 use Rattle.xd_check_steps.specs.declared.lines.Finding.TheVariants.{NotExhaustive, Argument, Result, DeadClause}
 use Rattle.xd_check_steps.specs.declared.lines.FoundLine.{FoundLine}
@@ -37,35 +36,11 @@ pub belong_joined : (ds : List Document) (ls ms : List FoundLine) → LinesBelon
 belong_joined ds [] ms a b = b
 belong_joined ds (l ∷ ls) ms a b = (a.0, belong_joined ds ls ms a.1 b)
 
--- what was added stays, where the store keeps its documents
-pub adds_kept : (ds es : List Document) → Keeps ds es → (A : List Line → Type 0) (old new : List FoundLine) → AddsLines ds A old new → AddsLines es A old new
-adds_kept ds es k A old new h = record {
-  more = h.more;
-  grown = h.grown;
-  belong = belong_kept ds es k h.more h.belong;
-  meet = subst A (sym (lines_kept ds es k h.more h.belong)) h.meet;
-}
-
-pub adds_none : (ds : List Document) (A : List Line → Type 0) → A [] → (ls : List FoundLine) → AddsLines ds A ls ls
+adds_none : (ds : List Document) (A : List Line → Type 0) → A [] → (ls : List FoundLine) → AddsLines ds A ls ls
 adds_none ds A h ls = record { more = []; grown = sym (append-nil ls); belong = tt; meet = h }
 
-pub adds_one : (ds : List Document) (A : List Line → Type 0) (old : List FoundLine) (l : FoundLine) → FindingBelongs ds l.finding → A (line_of ds l ∷ []) → AddsLines ds A old (old ++ l ∷ [])
+adds_one : (ds : List Document) (A : List Line → Type 0) (old : List FoundLine) (l : FoundLine) → FindingBelongs ds l.finding → A (line_of ds l ∷ []) → AddsLines ds A old (old ++ l ∷ [])
 adds_one ds A old l b h = record { more = l ∷ []; grown = refl; belong = (b, tt); meet = h }
-
-pub adds_as : (ds : List Document) (A B : List Line → Type 0) → ((ls : List Line) → A ls → B ls) → (old new : List FoundLine) → AddsLines ds A old new → AddsLines ds B old new
-adds_as ds A B f old new h = record { more = h.more; grown = h.grown; belong = h.belong; meet = f (lines_of ds h.more) h.meet }
-
--- the lines of one part, and then those of another
-pub adds_both : (ds es : List Document) → Keeps ds es → (A B : List Line → Type 0) (old mid new : List FoundLine) →
-    AddsLines ds A old mid → AddsLines es B mid new → AddsLines es (Both A B) old new
-adds_both ds es k A B old mid new g h =
-    let a = adds_kept ds es k A old mid g in
-    record {
-      more = a.more ++ h.more;
-      grown = h.grown ∙ ap (λ ls. ls ++ h.more) a.grown ∙ append_assoc old a.more h.more;
-      belong = belong_joined es a.more h.more a.belong h.belong;
-      meet = (lines_of es a.more, lines_of es h.more, a.meet, h.meet, map-append (line_of es) a.more h.more);
-    }
 
 -- a document that is least up to the limit is least as sizes are told apart, among the proper ones
 -- too
@@ -73,7 +48,7 @@ least_proper : (A : Document → Type 0) (d : Document) → is_proper d ≡ true
 least_proper A d p h = least_of_part told_size A (IsProperWith A) d (record { proper = p; meets = h.within }) (λ e q. q.meets) (least_told size_limit A d h)
 
 -- a line with a least document of the store that meets the fact
-pub line_there : (ds : List Document) (p : Place) (A : Document → Type 0) (l : FoundLine) (seq : Seq) → l.place ≡ p → carried ds l.finding ≡ Some (document_at ds seq) → BelongsTo ds seq →
+line_there : (ds : List Document) (p : Place) (A : Document → Type 0) (l : FoundLine) (seq : Seq) → l.place ≡ p → carried ds l.finding ≡ Some (document_at ds seq) → BelongsTo ds seq →
     IsLeastUpTo size_limit A (document_at ds seq) → LineWhere told_size p (kind_of l.finding) A (line_of ds l ∷ [])
 line_there ds p A l seq e c b h =
     inl (

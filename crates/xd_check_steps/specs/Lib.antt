@@ -5,3 +5,4 @@ pub mod Signed
 pub mod Clauses
 pub mod Walkable
 pub mod Known
+pub mod Found

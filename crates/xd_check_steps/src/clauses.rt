@@ -224,6 +224,7 @@ pub fn see_uncovered(
     requires arriving { IsState auto.now arriving }
     requires known { IsKnown auto.now store.old findings.old.known }
     ensures lines { OnOk result (AddsLines store.new (LineWhere told_size place not_exhaustive (Accepted auto.now arriving)) findings.old.lines.items findings.new.lines.items) }
+    ensures met { findings.new.met.items ≡ findings.old.met.items }
     ensures known { OnOk result (IsKnown auto.now store.new findings.new.known) }
     ensures keeps { Keeps store.old store.new }
 {

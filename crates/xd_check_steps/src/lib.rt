@@ -18,7 +18,7 @@ pub use clauses::{
     see_uncovered,
 };
 pub use collect::patterns_of;
-pub use findings::Findings;
+pub use findings::{Findings, MetMatch, meet_before};
 pub use known::Known;
 pub use lines::{Finding, FoundLine, Told, sort_lines, tell};
 pub use signatures::{Signature, Signatures, declared_types};

@@ -1,4 +1,2 @@
 pub mod ByPlace
-pub mod MetClauses
-pub mod MetMatches
 pub mod MetOrder

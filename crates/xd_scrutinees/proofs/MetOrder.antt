@@ -1,30 +1,28 @@
--- Matches that were met, in order of place, and the loop over functions.
-use Rattle.std.proofs.Common.{◌≡◌, ℕ, ◌+◌, ◌<◌, List, [], ◌∷◌, map, length, get_or, drop, refl, ap, sym, subst, ◌∙◌}
+-- Matches that were met, in order of place.
+use Rattle.std.proofs.Common.{◌≡◌, ℕ, List, [], ◌∷◌, ◌++◌, refl, ap, sym, subst, ◌∙◌}
 use Rattle.std.specs.List.{AllByRecursion, AllZip}
-use Rattle.std.proofs.lemmas.List.{drop_more}
 use Rattle.xd_base.specs.declared.Place.{Place}
 use Rattle.xd_auto.specs.Automaton.{Automaton, IsState}
-use Rattle.xd_syntax.specs.FunctionRow.{FunctionRow}
-use Rattle.xd_syntax.specs.Kept.{AddsTypes, ProgramTable, function_definition, program_tree}
+use Rattle.xd_doc.specs.Document.{Document}
+use Rattle.xd_syntax.specs.Kept.{AddsTypes, ProgramTable, program_tree}
 use Rattle.xd_syntax.specs.ExpressionTable.{expression_at}
 use Rattle.xd_syntax.specs.Program.{ProgramTree, names_of}
 use Rattle.xd_syntax.specs.May.{May}
-use Rattle.xd_check_steps.specs.States.{AcceptsJust}
-use Rattle.xd_syntax.specs.Matches.{AreMatches, MatchesOfFunction, MatchesOfFunctions, SeenMatch, match_precedes}
+use Rattle.xd_syntax.specs.Matches.{AreMatches, SeenMatch, match_precedes}
+use Rattle.xd_syntax.specs.Order.{is_earlier, ordered}
 use Rattle.xd_syntax.specs.declared.exprs.ExprId.{ExprId}
 use Rattle.xd_least.specs.Least.{Knows}
 use Rattle.xd_patterns.specs.Compiler.{Serves}
 use Rattle.xd_clauses.specs.Compiled.{ArePatterns}
 use Rattle.xd_check_steps.specs.Clauses.{ServesOn}
+use Rattle.xd_check_steps.specs.Found.{AddsFound, Found, IsMet}
+use Rattle.xd_check_steps.specs.States.{AcceptsJust}
 use Rattle.xd_check_steps.specs.Walkable.{expr_at}
-use Rattle.xd_syntax.specs.Order.{is_earlier, ordered}
-use Rattle.xd_scrutinees.specs.Scrutinees.{AddsMatches, AddsMatchesOfFunction, AreMatchStates, AreScrutinees, StandsAlone, IsMet, IsScrutineeOf, met_precedes}
-use Rattle.xd_check_steps.specs.States.{Grows}
-use Rattle.xd_scrutinees.specs.declared.matches.MetMatch.{MetMatch}
+use Rattle.xd_check_steps.specs.declared.findings.MetMatch.{MetMatch}
+use Rattle.xd_check.specs.Walked.{SeenInFunctions}
+use Rattle.xd_scrutinees.specs.Scrutinees.{AreMatchStates, AreScrutinees, StandsAlone, IsScrutineeOf, met_precedes}
 use Rattle.xd_scrutinees.specs.declared.matches.MatchStates.{MatchStates}
 use Rattle.xd_scrutinees.specs.declared.matches.Scrutinee.{Scrutinee}
-use Rattle.xd_check_steps.proofs.GrowsLemmas.{grows_none, grows_then}
-use Rattle.xd_scrutinees.proofs.MetMatches.{Goes, goes_begin, goes_end, goes_more}
 use Rattle.xd_scrutinees.proofs.ByPlace.{ordered_both}
 
 abbrev pub met_place : MetMatch → Place
@@ -57,42 +55,15 @@ module _ (p : ProgramTable) (a : Automaton) where
   )
 
 -- all that was met, in order of place
-pub met_in_order : (p : ProgramTable) (a : Automaton) (xs : List MetMatch) → AddsMatches p a (MatchesOfFunctions (program_tree p) (program_tree p).functions) [] xs →
-    (ms : List SeenMatch) × AreMatches (program_tree p) ms × AllZip (IsMet p a) ms (ordered met_precedes xs)
-met_in_order p a xs h = (
-  ordered match_precedes h.seen,
-  record { found = h.seen; all = h.meet; ordered = refl },
-  subst (λ ys. AllZip (IsMet p a) (ordered match_precedes h.seen) (ordered met_precedes ys)) (sym h.grown) (ordered_both (IsMet p a) match_precedes met_precedes (same_order p a) h.seen h.more h.each),
-)
-
--- the functions from the n-th on are still to be walked
-pub record FunctionsMet (p : ProgramTable) (a b : Automaton) (old new : List MetMatch) (n : ℕ) : Type 0 where
-  pub grows : Grows a b
-  pub met : AddsMatches p b (Goes (MatchesOfFunctions (program_tree p) (map (function_definition p) (drop n p.functions))) (MatchesOfFunctions (program_tree p) (map (function_definition p) p.functions))) old new
-
-pub functions_begin : (p : ProgramTable) (a : Automaton) (xs : List MetMatch) → FunctionsMet p a a xs xs 0
-functions_begin p a xs = record { grows = grows_none a; met = goes_begin p a (MatchesOfFunctions (program_tree p) (map (function_definition p) p.functions)) xs }
-
-pub functions_more : (p : ProgramTable) (a b c : Automaton) (old mid new : List MetMatch) (n : ℕ) (f : FunctionRow) → FunctionsMet p a b old mid n → n < length p.functions → f ≡ get_or p.functions n f →
-    AddsMatchesOfFunction p n c mid new → Grows b c → FunctionsMet p a c old new (n + 1)
-functions_more p a b c old mid new n f h l e x g =
-    let d : drop n p.functions ≡ f ∷ drop (n + 1) p.functions = drop_more p.functions n f l ∙ ap (λ y. y ∷ drop (n + 1) p.functions) (sym e) in
-    let whole : List SeenMatch → Type 0 = MatchesOfFunctions (program_tree p) (map (function_definition p) p.functions) in
-    let y : AddsMatches p b (Goes (MatchesOfFunctions (program_tree p) (map (function_definition p) (f ∷ drop (n + 1) p.functions))) whole) old mid
-    = subst (λ (rs : List FunctionRow). AddsMatches p b (Goes (MatchesOfFunctions (program_tree p) (map (function_definition p) rs)) whole) old mid) d h.met in
-    record {
-      grows = grows_then a b c h.grows g;
-      met = goes_more p b c g (MatchesOfFunctions (program_tree p) (map (function_definition p) (f ∷ drop (n + 1) p.functions))) (MatchesOfFunction (program_tree p) (function_definition p f))
-          (MatchesOfFunctions (program_tree p) (map (function_definition p) (drop (n + 1) p.functions))) whole old mid new y (x f e) (λ ls ms u v. (ls, ms, u, v, refl));
-    }
-
-pub functions_end : (p : ProgramTable) (a b : Automaton) (old new : List MetMatch) (n : ℕ) → drop n p.functions ≡ [] → FunctionsMet p a b old new n →
-    AddsMatches p b (MatchesOfFunctions (program_tree p) (map (function_definition p) p.functions)) old new
-functions_end p a b old new n d h =
-    let whole : List SeenMatch → Type 0 = MatchesOfFunctions (program_tree p) (map (function_definition p) p.functions) in
-    let y : AddsMatches p b (Goes (MatchesOfFunctions (program_tree p) []) whole) old new
-    = subst (λ (rs : List FunctionRow). AddsMatches p b (Goes (MatchesOfFunctions (program_tree p) (map (function_definition p) rs)) whole) old new) d h.met in
-    goes_end p b (MatchesOfFunctions (program_tree p) []) whole refl old new y
+pub met_in_order : (p : ProgramTable) (a : Automaton) (ds : List Document) (none found : Found) → none.met ≡ [] → AddsFound p a ds (SeenInFunctions (program_tree p) (program_tree p).functions) none found →
+    (ms : List SeenMatch) × AreMatches (program_tree p) ms × AllZip (IsMet p a) ms (ordered met_precedes found.met)
+met_in_order p a ds none found z h =
+    let ms : List SeenMatch = (h.seen).matches in (
+      ordered match_precedes ms,
+      record { found = ms; all = (h.meet).1; ordered = refl },
+      subst (λ ys. AllZip (IsMet p a) (ordered match_precedes ms) (ordered met_precedes ys)) (sym (h.met ∙ ap (λ xs. xs ++ (h.more).met) z))
+          (ordered_both (IsMet p a) match_precedes met_precedes (same_order p a) ms (h.more).met (h.stands).met),
+    )
 
 -- what was met of a program to which types were added is what was met of the program
 module _ (p q : ProgramTable) (adds : AddsTypes p q) (same : program_tree q ≡ program_tree p) where
@@ -116,11 +87,11 @@ pub scrutinees_met : (p : ProgramTable) (a : Automaton) (met : MatchStates) (ys 
 scrutinees_met p a met ys h k =
     record { matches = h.found; seen = h.seen; each = back_each p met.sound h.adds h.same h.found ys (apart_each met.sound a h.found met.matches.items ys h.each k) }
 
-pub met_all : (p : ProgramTable) (a : Automaton) (met : MatchStates) (xs : List MetMatch) → AddsTypes p met.sound → program_tree met.sound ≡ program_tree p → Serves met.sound met.compiler →
+pub met_all : (p : ProgramTable) (a : Automaton) (met : MatchStates) (none found : Found) → AddsTypes p met.sound → program_tree met.sound ≡ program_tree p → Serves met.sound met.compiler →
     ArePatterns (names_of (program_tree met.sound)) met.sound.patterns met.patterns → ServesOn a met.patterns → Knows a met.store met.inhabitants →
-    AddsMatches met.sound a (MatchesOfFunctions (program_tree met.sound) (program_tree met.sound).functions) [] xs → met.matches.items ≡ ordered met_precedes xs → AreMatchStates p a met
-met_all p a met xs adds same serves patterns points known h e =
-    let m = met_in_order met.sound a xs h in
+    none.met ≡ [] → AddsFound met.sound a met.store (SeenInFunctions (program_tree met.sound) (program_tree met.sound).functions) none found → met.matches.items ≡ ordered met_precedes found.met → AreMatchStates p a met
+met_all p a met none found adds same serves patterns points known z h e =
+    let m = met_in_order met.sound a met.store none found z h in
     record {
       adds = adds;
       same = same;

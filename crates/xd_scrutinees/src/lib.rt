@@ -3,4 +3,5 @@
 
 mod matches;
 
-pub use matches::{MatchStates, MetMatch, Scrutinee, met_matches, scrutinees};
+pub use matches::{MatchStates, Scrutinee, met_matches, scrutinees};
+pub use xd_check_steps::MetMatch;

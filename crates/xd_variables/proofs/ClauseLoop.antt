@@ -1,5 +1,5 @@
 -- The loop over the clauses of a match.
-use Rattle.std.proofs.Common.{◌≡◌, ◌↔◌, ℕ, ◌+◌, ◌<◌, true, Bool, List, [], ◌∷◌, ◌++◌, length, get_or, drop, refl, sym, subst, ◌∙◌, append-nil, append_assoc}
+use Rattle.std.proofs.Common.{◌≡◌, ◌↔◌, ℕ, ◌+◌, ◌<◌, true, false, Bool, List, [], ◌∷◌, ◌++◌, length, get_or, drop, refl, sym, subst, ◌∙◌, append-nil, append_assoc}
 use Rattle.std.specs.List.{AllByRecursion}
 use Rattle.xd_doc.specs.Document.{Document}
 use Rattle.xd_auto.specs.declared.auto.State.{State}
@@ -23,11 +23,22 @@ use Rattle.xd_check_steps.specs.States.{Grows}
 use Rattle.xd_check.proofs.ClauseLemmas.{comes_among, comes_like}
 use Rattle.xd_check.proofs.ClauseLoop.{AreAhead, ahead_begin, ahead_more, clause_front, clauses_in, still_behind}
 use Rattle.xd_check_steps.proofs.GrowsLemmas.{grows_none, grows_then}
-use Rattle.xd_scrutinees.proofs.MetClauses.{passed_live}
-use Rattle.xd_variables.specs.Read.{AddsVariables, IsClauseRead}
+use Rattle.xd_variables.specs.Read.{AddsVariables, IsClauseRead, TellsLive}
 use Rattle.xd_variables.specs.Seen.{Reading, SeenVariable, variables_of_clause, variables_of_clauses}
 use Rattle.xd_variables.specs.declared.variables.BoundVariable.{BoundVariable}
 use Rattle.xd_variables.proofs.ReadingLemmas.{adds_both, adds_none}
+
+-- what comes after a clause, where it is told whether that is live
+passed_live : (P : ProgramTree) (S : Scope) (e : Expression) (earlier : List PlacedTree) (C D : Document → Type 0) → ComesBehind P S e earlier C → (Q : PlacedTree) (live : Bool) → TellsLive P S e earlier Q live →
+    ((d : Document) → D d ↔ (C d × (live ≡ true → Takes (names_of P) (unplaced Q) d → ⊥))) → ComesBehind P S e (Q ∷ earlier) D
+passed_live P S e earlier C D comes Q false dead h d p = (
+  (λ m. (let j = (comes d p).0 ((h d).0 m).0 in (j.0, ((λ t. dead (d, (p, j.0, j.1), t)), j.1)))),
+  (λ m. (h d).1 ((comes d p).1 (m.0, (m.1).1), (λ x. (m.1).0))),
+)
+passed_live P S e earlier C D comes Q true live h d p = (
+  (λ m. (let i = (h d).0 m in let j = (comes d p).0 i.0 in (j.0, (i.1 refl, j.1)))),
+  (λ m. (h d).1 ((comes d p).1 (m.0, (m.1).1), (λ x. (m.1).0))),
+)
 
 -- the clauses that are left, after these patterns
 pub record ClausesLeft (B : Reading) (P : ProgramTree) (S : Scope) (e : Expression) (all left : Clauses) (C : Document → Type 0) (a : Automaton) (old new : List BoundVariable) : Type 0 where

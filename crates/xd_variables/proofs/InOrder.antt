@@ -7,8 +7,9 @@ use Rattle.xd_syntax.specs.Kept.{ProgramTable, program_tree}
 use Rattle.xd_syntax.specs.Matches.{SeenMatch}
 use Rattle.xd_syntax.specs.Order.{is_earlier, ordered}
 use Rattle.xd_syntax.specs.Program.{ProgramTree}
-use Rattle.xd_scrutinees.specs.Scrutinees.{AreMatchStates, IsMet}
-use Rattle.xd_scrutinees.specs.declared.matches.MetMatch.{MetMatch}
+use Rattle.xd_check_steps.specs.Found.{IsMet}
+use Rattle.xd_scrutinees.specs.Scrutinees.{AreMatchStates}
+use Rattle.xd_check_steps.specs.declared.findings.MetMatch.{MetMatch}
 use Rattle.xd_scrutinees.specs.declared.matches.MatchStates.{MatchStates}
 use Rattle.xd_scrutinees.proofs.ByPlace.{ordered_both}
 use Rattle.xd_variables.specs.Bound.{AreBoundIn, IsBound, bound_precedes}

@@ -17,13 +17,13 @@ use Rattle.xd_syntax.specs.declared.exprs.ExprForm.{ExprForm}
 use Rattle.xd_syntax.specs.declared.exprs.ExprForm.TheVariants.{Call, Elem, Empty, Match, Seq, Text, Var}
 use Rattle.xd_clauses.specs.Clauses.{Accepted}
 use Rattle.xd_check_steps.specs.Walkable.{expr_at}
-use Rattle.xd_scrutinees.specs.Scrutinees.{IsMet}
+use Rattle.xd_check_steps.specs.Found.{IsMet}
 use Rattle.xd_check.specs.Walked.{ComesBehind}
 use Rattle.xd_check_steps.specs.States.{Grows}
-use Rattle.xd_scrutinees.specs.declared.matches.MetMatch.{MetMatch}
+use Rattle.xd_check_steps.specs.declared.findings.MetMatch.{MetMatch}
 use Rattle.xd_check.proofs.ClauseLemmas.{comes_first}
 use Rattle.xd_check_steps.proofs.GrowsLemmas.{grows_none, grows_then}
-use Rattle.xd_scrutinees.proofs.MetMatches.{met_kept}
+use Rattle.xd_check_steps.proofs.AddsFoundLemmas.{met_kept}
 use Rattle.xd_variables.specs.Read.{AddsVariables, CanBeRead}
 use Rattle.xd_variables.specs.Seen.{Reading, variables_of_clauses, variables_of_match}
 use Rattle.xd_variables.specs.declared.variables.BoundVariable.{BoundVariable}

@@ -21,7 +21,6 @@ use Rattle.xd_clauses.specs.Cases.{placed_pattern}
 use Rattle.xd_clauses.specs.Clauses.{AreGivensOf, IsGivenOf}
 use Rattle.xd_clauses.specs.Compiled.{IsNumbered}
 use Rattle.xd_clauses.specs.declared.compiled.CompiledPatterns.{CompiledPatterns}
-use Rattle.xd_scrutinees.specs.Scrutinees.{TellsLive}
 use Rattle.xd_check.specs.Walked.{ComesTo}
 use Rattle.xd_check_steps.specs.States.{Grows}
 use Rattle.xd_check.proofs.ClauseLemmas.{bind_from, bind_to, live_from, live_to}
@@ -29,7 +28,7 @@ use Rattle.xd_check.proofs.IsReadyLemmas.{serves_kept}
 use Rattle.xd_prefer.proofs.PrefersLemmas.{nothing_preferred, prefers_same}
 use Rattle.xd_variables.specs.Binders.{place_of_occurrence}
 use Rattle.xd_variables.specs.Bound.{IsBound, reading_of}
-use Rattle.xd_variables.specs.Read.{AddsVariables, IsClauseRead, IsReader, placed_givens}
+use Rattle.xd_variables.specs.Read.{AddsVariables, IsClauseRead, IsReader, TellsLive, placed_givens}
 use Rattle.xd_variables.specs.Seen.{Reading, SeenVariable, variable_at}
 use Rattle.xd_variables.specs.declared.reader.Reader.{Reader}
 use Rattle.xd_variables.specs.declared.variables.BoundVariable.{BoundVariable}

@@ -1,8 +1,9 @@
 -- What reading clauses adds.
-use Rattle.std.specs.Prelude.{◌≡◌, Bool, List, [], ◌∷◌, ◌++◌}
+use Rattle.std.specs.Prelude.{◌≡◌, Bool, true, false, List, [], ◌∷◌, ◌++◌}
 use Rattle.std.specs.List.{AllZip}
 use Rattle.xd_base.specs.declared.Place.{Place}
 use Rattle.xd_auto.specs.Automaton.{Automaton, IsState}
+use Rattle.xd_syntax.specs.CheckFaults.{IsLiveIn}
 use Rattle.xd_syntax.specs.Expression.{Expression}
 use Rattle.xd_syntax.specs.Kept.{ProgramTable, program_tree}
 use Rattle.xd_syntax.specs.May.{Scope}
@@ -13,8 +14,7 @@ use Rattle.xd_patterns.specs.Compiler.{Serves}
 use Rattle.xd_clauses.specs.Compiled.{ArePatterns}
 use Rattle.xd_check_steps.specs.Walkable.{CanBeWalked}
 use Rattle.xd_check_steps.specs.Clauses.{ServesOn}
-use Rattle.xd_scrutinees.specs.Scrutinees.{TellsLive}
-use Rattle.xd_scrutinees.specs.declared.matches.MetMatch.{MetMatch}
+use Rattle.xd_check_steps.specs.declared.findings.MetMatch.{MetMatch}
 use Rattle.xd_variables.specs.Bound.{IsBound}
 use Rattle.xd_variables.specs.Seen.{Reading, SeenVariable, variables_of_clause}
 use Rattle.xd_variables.specs.declared.reader.Reader.{Reader}
@@ -36,6 +36,11 @@ pub record IsReader (r : Reader) (a : Automaton) : Type 0 where
 pub record CanBeRead (p : ProgramTable) (a : Automaton) (x : MetMatch) : Type 0 where
   pub walkable : CanBeWalked p x.expr.at
   pub belongs : IsState a x.state
+
+-- whether the clause is live
+abbrev pub TellsLive : ProgramTree → Scope → Expression → List PlacedTree → PlacedTree → Bool → Type 0
+TellsLive P S e earlier Q true = IsLiveIn P S e earlier Q
+TellsLive P S e earlier Q false = IsLiveIn P S e earlier Q → ⊥
 
 -- the variables of a clause were added, and it is told whether the clause is live
 pub record IsClauseRead (B : Reading) (P : ProgramTree) (S : Scope) (e : Expression) (earlier : List PlacedTree) (Q : PlacedTree) (a : Automaton) (old new : List BoundVariable) (live : Bool) : Type 0 where

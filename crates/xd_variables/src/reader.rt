@@ -21,7 +21,7 @@ ghost use Rattle.xd_clauses.specs.Clauses.{Accepted, AreGivensOf};
 ghost use Rattle.xd_clauses.specs.Compiled.{IsNumbered, IsSomePattern};
 ghost use Rattle.xd_check_steps.specs.Walkable.{ClauseCanBeWalked, expr_at};
 ghost use Rattle.xd_check_steps.specs.Clauses.{IsCompiledMatch, ServesOn};
-ghost use Rattle.xd_scrutinees.specs.Scrutinees.{IsMet};
+ghost use Rattle.xd_check_steps.specs.Found.{IsMet};
 ghost use Rattle.xd_check.specs.Walked.{ComesBehind, ComesTo};
 ghost use Rattle.xd_check_steps.specs.States.{Grows};
 ghost use Rattle.xd_variables.specs.Bound.{reading_of};

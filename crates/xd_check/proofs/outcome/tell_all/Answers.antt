@@ -3,7 +3,11 @@ use Rattle.std.proofs.Common.{List, ◌∙◌}
 use Rattle.xd_doc.specs.Document.{Document}
 use Rattle.xd_syntax.specs.Kept.{program_tree}
 use Rattle.xd_check_steps.specs.declared.lines.FoundLine.{FoundLine}
-use Rattle.xd_check_steps.specs.FoundLines.{lines_of}
+use Rattle.xd_syntax.specs.CheckFaults.{LinesOfFunctions}
+use Rattle.xd_syntax.specs.Program.{ProgramTree}
+use Rattle.xd_check_steps.specs.FoundLines.{lines_of, told_size}
+use Rattle.xd_check_steps.proofs.AddsFoundLemmas.{lines_added}
+use Rattle.xd_check.specs.Walked.{SeenInFunctions}
 use Rattle.xd_check.proofs.Outcomes.{lines_sorted}
 use Rattle.xd_check.proofs.outcome.tell_all.Goals as goal
 
@@ -16,7 +20,9 @@ returns c =
       told =
           let ds : List Document = c.in_functions.new.store in
           let ls : List FoundLine = c.deref.result.now in
-          let s = lines_sorted (program_tree c.args.checker.now.sound) ds c.args.findings.now.lines.items c.in_functions.new.findings.lines.items ls c.requires.lines c.in_ok-in_functions.ensures.lines (c.deref.ensures.value ∙ c.in_ok-sort_lines.ensures) in
+          let P : ProgramTree = program_tree c.args.checker.now.sound in
+          let added = lines_added (SeenInFunctions P P.functions) (LinesOfFunctions told_size P P.functions) (λ x h. h.0) c.in_ok-in_functions.ensures.found in
+          let s = lines_sorted P ds c.args.findings.now.lines.items c.in_functions.new.findings.lines.items ls c.requires.lines added (c.deref.ensures.value ∙ c.in_ok-sort_lines.ensures) in
           (lines_of ds ls, s.lines, c.in_ok-told.ensures.faults ds s.belong, c.in_ok-told.ensures.warnings ds);
       keeps = c.in_ok-in_functions.ensures.keeps;
     }

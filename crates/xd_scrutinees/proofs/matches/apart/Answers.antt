@@ -3,7 +3,7 @@ use Rattle.std.specs.List.{AllZip}
 use Rattle.std.proofs.lemmas.List.{take_more}
 use Rattle.xd_doc.proofs.Lists.{zip_push}
 use Rattle.xd_scrutinees.specs.Scrutinees.{StandsAlone}
-use Rattle.xd_scrutinees.specs.declared.matches.MetMatch.{MetMatch}
+use Rattle.xd_check_steps.specs.declared.findings.MetMatch.{MetMatch}
 use Rattle.xd_scrutinees.proofs.matches.apart.Goals as goal
 
 pub loop-found-preserved : goal.loop-found-preserved

@@ -3,7 +3,7 @@ use Rattle.std.specs.List.{AllByRecursion, AllZip}
 use Rattle.std.proofs.lemmas.Result.{IfOk-weaker}
 use Rattle.xd_auto.specs.Automaton.{IsState}
 use Rattle.xd_scrutinees.specs.Scrutinees.{AreScrutinees, StandsAlone}
-use Rattle.xd_scrutinees.specs.declared.matches.MetMatch.{MetMatch}
+use Rattle.xd_check_steps.specs.declared.findings.MetMatch.{MetMatch}
 use Rattle.xd_scrutinees.proofs.MetOrder.{met_states, scrutinees_met}
 use Rattle.xd_scrutinees.proofs.matches.scrutinees.Goals as goal
 

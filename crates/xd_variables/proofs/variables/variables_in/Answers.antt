@@ -1,7 +1,7 @@
 use Rattle.std.proofs.Common.{List, flat_map, sym, subst}
 use Rattle.std.specs.List.{AllByRecursion, AllZip}
 use Rattle.xd_syntax.specs.Kept.{program_tree}
-use Rattle.xd_scrutinees.specs.Scrutinees.{IsMet}
+use Rattle.xd_check_steps.specs.Found.{IsMet}
 use Rattle.xd_variables.specs.Bound.{reading_of}
 use Rattle.xd_variables.specs.Read.{AddsVariables, CanBeRead}
 use Rattle.xd_variables.specs.Seen.{variables_of_match}

@@ -1,5 +1,5 @@
 use borrow.Author.Count.{falls}
-use Rattle.std.proofs.Common.{◌≡◌, ◌↔◌, ℕ, ◌+◌, ◌-◌, ◌*◌, ◌<◌, arith, true, false, Ok, None, List, [], ◌∷◌, map, length, get_or, drop, refl, ap, sym, subst, ◌∙◌}
+use Rattle.std.proofs.Common.{◌≡◌, ◌↔◌, ℕ, Global, Vec, ◌+◌, ◌-◌, ◌*◌, ◌<◌, arith, true, false, Ok, None, List, [], ◌∷◌, ◌++◌, map, length, get_or, drop, refl, ap, sym, subst, ◌∙◌}
 use Rattle.std.specs.List.{AllByRecursion}
 use Rattle.std.specs.Option.{IfSome}
 use Rattle.std.proofs.lemmas.List.{drop_all, get_or_default}
@@ -14,7 +14,7 @@ use Rattle.xd_syntax.specs.Kept.{ProgramTable, program_tree}
 use Rattle.xd_syntax.specs.Placed.{PlacedTree, unplaced}
 use Rattle.xd_syntax.specs.PlacedTable.{placed_at}
 use Rattle.xd_syntax.specs.Program.{ProgramTree, function_of, names_of}
-use Rattle.xd_syntax.specs.Expression.{Clauses, Expression, Matched, place_of_expression}
+use Rattle.xd_syntax.specs.Expression.{Clauses, Expression, Matched, arguments_of, place_of_expression}
 use Rattle.xd_syntax.specs.ExpressionTable.{ExprPartsBelow, ExprRow, PatternsBelong, ShapePatternsBelong, empty_shape, text_shape, var_shape, elem_shape, seq_shape, call_shape, match_shape, clauses_of}
 use Rattle.xd_syntax.specs.Exprs.{clause_numbers, expr_numbers, shape_of}
 use Rattle.xd_syntax.specs.declared.exprs.ExprId.{ExprId}
@@ -37,8 +37,11 @@ use Rattle.xd_check_steps.specs.declared.lines.Finding.TheVariants.{DeadClause}
 use Rattle.xd_check_steps.specs.declared.variables.Variable.{Variable}
 use Rattle.xd_check_steps.specs.Signed.{AreParameters, signature_of}
 use Rattle.xd_check_steps.specs.States.{Grows}
-use Rattle.xd_check.specs.Walked.{IsWalked, LinesOfArgument}
+use Rattle.xd_check.specs.Walked.{IsWalked, LinesOfArgument, SeenInArguments}
+use Rattle.xd_check_steps.specs.Found.{found_in}
 use Rattle.xd_check_steps.specs.FoundLines.{AddsLines}
+use Rattle.xd_check_steps.specs.declared.findings.MetMatch.{MetMatch}
+use Rattle.xd_check_steps.proofs.AddsFoundLemmas.{adds_kept}
 use Rattle.xd_check.proofs.ClauseLemmas.{clause_dead, clause_live, comes_first, live_from, live_to, walked_matched}
 use Rattle.xd_check.proofs.Arguments.{all_there, walked_called}
 use Rattle.xd_check_steps.proofs.GrowsLemmas.{grows_then, scope_kept}
@@ -128,8 +131,8 @@ in_expression-returns-in_ok-add_state-in-Empty t c =
           let tree = expr_is p c.exprs.result.now c.args.id n.place n.form empty_shape e (c.node-node.ensures.expression p.patterns) (sym c.form.ensures ∙ ap shape_of c.in-Empty.is) in
           let s : State = c.in_ok-add_state-in-Empty.field-0 in
           let ok = c.in_ok-add_state-in-Empty.ensures.ok in
-          subst (λ x. IsWalked (program_tree p) S x c.add_state.new.self c.args.store.now c.args.findings.now.lines.items c.args.findings.now.lines.items s) (sym tree)
-          (walked_nothing (program_tree p) S n.place c.add_state.new.self c.args.store.now c.args.findings.now.lines.items s (joined_none c.add_state.new.self s (new_moves c.args.auto.now c.add_state.new.self s true ok.0 ok.1)));
+          subst (λ x. IsWalked p S x c.add_state.new.self c.args.store.now (found_in c.args.findings.now) (found_in c.args.findings.now) s) (sym tree)
+          (walked_nothing p S n.place c.add_state.new.self c.args.store.now (found_in c.args.findings.now) s (joined_none c.add_state.new.self s (new_moves c.args.auto.now c.add_state.new.self s true ok.0 ok.1)));
       variables = refl;
       grows = record { extends = c.in_ok-add_state-in-Empty.ensures.extends; keeps = c.in_ok-add_state-in-Empty.ensures.keeps };
       known =
@@ -147,8 +150,8 @@ in_expression-returns-in_ok-text_state-in-Text t c =
           let e : c.exprs.result.now ≡ p.exprs = c.exprs.ensures.exprs ∙ ap (λ (q : ProgramTable). q.exprs) c.program.ensures.program in
           let n = c.node-node.result.now in
           let tree = expr_is p c.exprs.result.now c.args.id n.place n.form (text_shape c.in-Text.text) e (c.node-node.ensures.expression p.patterns) (sym c.form.ensures ∙ ap shape_of c.in-Text.is) in
-          subst (λ x. IsWalked (program_tree p) S x c.text_state.new.auto c.args.store.now c.args.findings.now.lines.items c.args.findings.now.lines.items c.in_ok-text_state-in-Text.field-0) (sym tree)
-          (walked_quoted (program_tree p) S n.place c.in-Text.text c.text_state.new.auto c.args.store.now c.args.findings.now.lines.items c.in_ok-text_state-in-Text.field-0 c.in_ok-text_state-in-Text.ensures.accepts);
+          subst (λ x. IsWalked p S x c.text_state.new.auto c.args.store.now (found_in c.args.findings.now) (found_in c.args.findings.now) c.in_ok-text_state-in-Text.field-0) (sym tree)
+          (walked_quoted p S n.place c.in-Text.text c.text_state.new.auto c.args.store.now (found_in c.args.findings.now) c.in_ok-text_state-in-Text.field-0 c.in_ok-text_state-in-Text.ensures.accepts);
       variables = refl;
       grows = c.in_ok-text_state-in-Text.ensures.grows;
       known = known_kept c.args.auto.now c.text_state.new.auto c.args.store.now c.args.store.now c.args.findings.now.known c.in_ok-text_state-in-Text.ensures.grows (Keeps-same c.args.store.now) c.requires.known;
@@ -164,8 +167,8 @@ in_expression-returns-in_ok-variable_state-in-Var t c =
           let e : c.exprs.result.now ≡ p.exprs = c.exprs.ensures.exprs ∙ ap (λ (q : ProgramTable). q.exprs) c.program.ensures.program in
           let n = c.node-node.result.now in
           let tree = expr_is p c.exprs.result.now c.args.id n.place n.form (var_shape c.in-Var.word) e (c.node-node.ensures.expression p.patterns) (sym c.form.ensures ∙ ap shape_of c.in-Var.is) in
-          subst (λ x. IsWalked (program_tree p) S x c.variable_state.new.auto c.args.store.now c.args.findings.now.lines.items c.args.findings.now.lines.items c.in_ok-variable_state-in-Var.field-0) (sym tree)
-          (walked_variable (program_tree p) S n.place c.in-Var.word c.args.auto.now c.variable_state.new.auto c.args.variables.now c.args.store.now c.args.findings.now.lines.items c.in_ok-variable_state-in-Var.field-0 stands c.in_ok-variable_state-in-Var.ensures.accepts);
+          subst (λ x. IsWalked p S x c.variable_state.new.auto c.args.store.now (found_in c.args.findings.now) (found_in c.args.findings.now) c.in_ok-variable_state-in-Var.field-0) (sym tree)
+          (walked_variable p S n.place c.in-Var.word c.args.auto.now c.variable_state.new.auto c.args.variables.now c.args.store.now (found_in c.args.findings.now) c.in_ok-variable_state-in-Var.field-0 stands c.in_ok-variable_state-in-Var.ensures.accepts);
       variables = refl;
       grows = c.in_ok-variable_state-in-Var.ensures.grows;
       known = known_kept c.args.auto.now c.variable_state.new.auto c.args.store.now c.args.store.now c.args.findings.now.known c.in_ok-variable_state-in-Var.ensures.grows (Keeps-same c.args.store.now) c.requires.known;
@@ -181,9 +184,9 @@ in_expression-returns-in_ok-wrap-in-Elem t c =
           let e : c.exprs.result.now ≡ p.exprs = c.exprs.ensures.exprs ∙ ap (λ (q : ProgramTable). q.exprs) c.program.ensures.program in
           let n = c.node-node.result.now in
           let tree = expr_is p c.exprs.result.now c.args.id n.place n.form (elem_shape c.in-Elem.label c.in-Elem.content.at) e (c.node-node.ensures.expression p.patterns) (sym c.form.ensures ∙ ap shape_of c.in-Elem.is) in
-          subst (λ x. IsWalked (program_tree p) S x c.wrap.new.self c.in_expression.new.store c.args.findings.now.lines.items c.in_expression.new.findings.lines.items c.in_ok-wrap-in-Elem.field-0) (sym tree)
-          (walked_tagged (program_tree p) S n.place c.in-Elem.label (expr_at p c.in-Elem.content.at) c.in_expression.new.auto c.wrap.new.self c.in_expression.new.store c.args.findings.now.lines.items c.in_expression.new.findings.lines.items
-          c.in_ok-inside-in-Elem.inside c.in_ok-wrap-in-Elem.field-0 (c.in_ok-inside-in-Elem.ensures.walked S stands) c.in_ok-wrap-in-Elem.ensures.ok);
+          subst (λ x. IsWalked p S x c.wrap.new.self c.in_expression.new.store (found_in c.args.findings.now) (found_in c.in_expression.new.findings) c.in_ok-wrap-in-Elem.field-0) (sym tree)
+          (walked_tagged p S n.place c.in-Elem.label (expr_at p c.in-Elem.content.at) c.in_expression.new.auto c.wrap.new.self c.in_expression.new.store (found_in c.args.findings.now) (found_in c.in_expression.new.findings)
+          c.in_ok-inside-in-Elem.inside c.in_ok-wrap-in-Elem.field-0 (record { extends = c.in_ok-wrap-in-Elem.ensures.extends; keeps = c.in_ok-wrap-in-Elem.ensures.keeps }) (c.in_ok-inside-in-Elem.ensures.walked S stands) c.in_ok-wrap-in-Elem.ensures.ok);
       variables = c.in_ok-inside-in-Elem.ensures.variables;
       grows = grows_then c.args.auto.now c.in_expression.new.auto c.wrap.new.self c.in_ok-inside-in-Elem.ensures.grows (record { extends = c.in_ok-wrap-in-Elem.ensures.extends; keeps = c.in_ok-wrap-in-Elem.ensures.keeps });
       known =
@@ -204,9 +207,9 @@ in_expression-returns-in_ok-join_states-in-Seq t c =
           let ids : List ℕ = expr_numbers c.deref.result.now in
           let form = sym c.form.ensures ∙ ap shape_of c.in-Seq.is ∙ ap (λ (ps : List ExprId). seq_shape (expr_numbers ps)) (sym c.deref.ensures.value) in
           let tree = expr_is p c.exprs.result.now c.args.id n.place n.form (seq_shape ids) e (c.node-node.ensures.expression p.patterns) form in
-          subst (λ x. IsWalked (program_tree p) S x c.join_states.new.auto c.in_parts.new.store c.args.findings.now.lines.items c.in_parts.new.findings.lines.items c.in_ok-join_states-in-Seq.field-0) (sym tree)
-          (walked_joined (program_tree p) S n.place (map (expr_at p) ids) c.in_parts.new.auto c.join_states.new.auto c.in_parts.new.store c.args.findings.now.lines.items c.in_parts.new.findings.lines.items c.in_ok-states-in-Seq.states.items
-          c.in_ok-join_states-in-Seq.field-0 (c.in_ok-states-in-Seq.ensures.walked S stands) c.in_ok-join_states-in-Seq.ensures.accepts);
+          subst (λ x. IsWalked p S x c.join_states.new.auto c.in_parts.new.store (found_in c.args.findings.now) (found_in c.in_parts.new.findings) c.in_ok-join_states-in-Seq.field-0) (sym tree)
+          (walked_joined p S n.place (map (expr_at p) ids) c.in_parts.new.auto c.join_states.new.auto c.in_parts.new.store (found_in c.args.findings.now) (found_in c.in_parts.new.findings) c.in_ok-states-in-Seq.states.items
+          c.in_ok-join_states-in-Seq.field-0 c.in_ok-join_states-in-Seq.ensures.grows (c.in_ok-states-in-Seq.ensures.walked S stands) c.in_ok-join_states-in-Seq.ensures.accepts);
       variables = c.in_ok-states-in-Seq.ensures.variables;
       grows = grows_then c.args.auto.now c.in_parts.new.auto c.join_states.new.auto c.in_ok-states-in-Seq.ensures.grows c.in_ok-join_states-in-Seq.ensures.grows;
       known = known_kept c.in_parts.new.auto c.join_states.new.auto c.in_parts.new.store c.in_parts.new.store c.in_parts.new.findings.known c.in_ok-join_states-in-Seq.ensures.grows (Keeps-same c.in_parts.new.store) c.in_ok-states-in-Seq.ensures.known;
@@ -225,8 +228,8 @@ in_expression-returns-in_ok-in_call-in-Call t c =
           let form = sym c.form.ensures ∙ ap shape_of c.in-Call.is ∙ ap (λ (ps : List ExprId). call_shape c.in-Call.word (expr_numbers ps)) (sym c.deref-in-Call.ensures.value) in
           let tree = expr_is p c.exprs.result.now c.args.id n.place n.form (call_shape c.in-Call.word ids) e (c.node-node.ensures.expression p.patterns) form in
           let r = c.in_ok-in_call-in-Call.ensures in
-          subst (λ x. IsWalked (program_tree p) S x c.in_call.new.auto c.in_call.new.store c.args.findings.now.lines.items c.in_call.new.findings.lines.items c.in_ok-in_call-in-Call.field-0) (sym tree)
-          (walked_called (program_tree p) S n.place c.in-Call.word (map (expr_at p) ids) c.in_call.new.auto c.in_call.new.store c.args.findings.now.lines.items c.in_call.new.findings.lines.items c.in_ok-in_call-in-Call.field-0 (r.lines S stands) r.result);
+          subst (λ x. IsWalked p S x c.in_call.new.auto c.in_call.new.store (found_in c.args.findings.now) (found_in c.in_call.new.findings) c.in_ok-in_call-in-Call.field-0) (sym tree)
+          (walked_called p S n.place c.in-Call.word (map (expr_at p) ids) c.in_call.new.auto c.in_call.new.store (found_in c.args.findings.now) (found_in c.in_call.new.findings) c.in_ok-in_call-in-Call.field-0 (r.found S stands) r.result);
       variables = c.in_ok-in_call-in-Call.ensures.variables;
       grows = c.in_ok-in_call-in-Call.ensures.grows;
       known = c.in_ok-in_call-in-Call.ensures.known;
@@ -236,8 +239,8 @@ in_expression-returns-in_ok-in_call-in-Call t c =
 pub in_parts-loop-part-init : goal.in_parts-loop-part-init
 in_parts-loop-part-init t c =
     record {
-      walk = subst (PartsLoop c.args.self.now.sound c.args.auto.now c.args.auto.now c.args.variables.now c.args.variables.now c.args.store.now c.args.store.now c.args.findings.now.lines.items c.args.findings.now.lines.items c.args.parts.now 0) (sym c.new-states.ensures.items)
-          (parts_begin c.args.self.now.sound c.args.auto.now c.args.variables.now c.args.store.now c.args.findings.now.lines.items c.args.parts.now c.requires.parts);
+      walk = subst (PartsLoop c.args.self.now.sound c.args.auto.now c.args.auto.now c.args.variables.now c.args.variables.now c.args.store.now c.args.store.now (found_in c.args.findings.now) (found_in c.args.findings.now) c.args.parts.now 0) (sym c.new-states.ensures.items)
+          (parts_begin c.args.self.now.sound c.args.auto.now c.args.variables.now c.args.store.now (found_in c.args.findings.now) c.args.parts.now c.requires.parts);
       known = c.requires.known;
     }
 
@@ -247,7 +250,7 @@ in_parts-in_expression-requires t c =
     let st = i.stays in
     let n : ℕ = c.loop-part.part-index in
     let id : ExprId = get_or c.args.parts.now n (record { at = 0 }) in
-    let h = part_here c.args.self.now.sound c.args.auto.now c.loop-part.auto' c.args.variables.now c.loop-part.variables c.args.store.now c.loop-part.store c.args.findings.now.lines.items c.loop-part.findings.lines.items c.args.parts.now n c.loop-part.states.items id i
+    let h = part_here c.args.self.now.sound c.args.auto.now c.loop-part.auto' c.args.variables.now c.loop-part.variables c.args.store.now c.loop-part.store (found_in c.args.findings.now) (found_in c.loop-part.findings) c.args.parts.now n c.loop-part.states.items id i
     c.loop-part-test.true (get_or_default c.args.parts.now n (record { at = 0 }) id c.loop-part-test.true) in
     let top = h.1 in
     let fallen : 4 * id.at + 3 < t = omega arith in
@@ -260,7 +263,7 @@ in_parts-loop-part-preserved t c =
     let e = c.in_ok-state.ensures in
     record {
       walk = parts_more c.args.self.now.sound c.args.auto.now c.loop-part.auto' c.in_expression.new.auto c.args.variables.now c.loop-part.variables c.in_expression.new.variables c.args.store.now c.loop-part.store c.in_expression.new.store
-          c.args.findings.now.lines.items c.loop-part.findings.lines.items c.in_expression.new.findings.lines.items c.args.parts.now n c.loop-part.states.items c.push.new.self.items id c.in_ok-state.state c.requires.variables c.loop-part.invariant.walk
+          (found_in c.args.findings.now) (found_in c.loop-part.findings) (found_in c.in_expression.new.findings) c.args.parts.now n c.loop-part.states.items c.push.new.self.items id c.in_ok-state.state c.requires.variables c.loop-part.invariant.walk
           c.loop-part-test.true (get_or_default c.args.parts.now n (record { at = 0 }) id c.loop-part-test.true) e.belongs e.walked e.variables e.grows e.keeps c.in_ok-push.ensures.items;
       known = e.known;
     }
@@ -270,7 +273,7 @@ in_parts-returns t c =
     record {
       belong = c.loop-part.invariant.walk.there;
       walked =
-          parts_end c.args.self.now.sound c.args.auto.now c.loop-part.auto' c.args.variables.now c.loop-part.variables c.args.store.now c.loop-part.store c.args.findings.now.lines.items c.loop-part.findings.lines.items c.args.parts.now c.loop-part.part-index
+          parts_end c.args.self.now.sound c.args.auto.now c.loop-part.auto' c.args.variables.now c.loop-part.variables c.args.store.now c.loop-part.store (found_in c.args.findings.now) (found_in c.loop-part.findings) c.args.parts.now c.loop-part.part-index
           c.loop-part.states.items (drop_all c.loop-part.part-index c.args.parts.now c.loop-part-test.false) c.loop-part.invariant.walk;
       variables = c.loop-part.invariant.walk.stays.variables;
       grows = c.loop-part.invariant.walk.stays.grows;
@@ -280,7 +283,7 @@ in_parts-returns t c =
 
 pub in_arguments-loop-number-init : goal.in_arguments-loop-number-init
 in_arguments-loop-number-init t c =
-    record { walk = arguments_begin c.args.self.now.sound c.args.auto.now c.args.variables.now c.args.store.now c.args.findings.now.lines.items c.args.parameters.now c.args.arguments.now c.requires.arguments; known = c.requires.known }
+    record { walk = arguments_begin c.args.self.now.sound c.args.auto.now c.args.variables.now c.args.store.now (found_in c.args.findings.now) c.args.parameters.now c.args.arguments.now c.requires.arguments; known = c.requires.known }
 
 pub in_arguments-in_expression-requires : goal.in_arguments-in_expression-requires
 in_arguments-in_expression-requires t c =
@@ -288,7 +291,7 @@ in_arguments-in_expression-requires t c =
     let st = i.stays in
     let n : ℕ = c.loop-number.number in
     let id : ExprId = get_or c.args.arguments.now n (record { at = 0 }) in
-    let h = argument_here c.args.self.now.sound c.args.auto.now c.loop-number.auto' c.args.variables.now c.loop-number.variables c.args.store.now c.loop-number.store c.args.findings.now.lines.items c.loop-number.findings.lines.items c.args.parameters.now
+    let h = argument_here c.args.self.now.sound c.args.auto.now c.loop-number.auto' c.args.variables.now c.loop-number.variables c.args.store.now c.loop-number.store (found_in c.args.findings.now) (found_in c.loop-number.findings) c.args.parameters.now
     c.args.arguments.now n id i c.loop-number-test.true (get_or_default c.args.arguments.now n (record { at = 0 }) id c.loop-number-test.true) in
     let top = h.1 in
     let fallen : 4 * id.at + 3 < t = omega arith in
@@ -300,7 +303,7 @@ in_arguments-see_argument-requires t c =
       argument =
           let n : ℕ = c.loop-number.number in
           let id : ExprId = get_or c.args.arguments.now n (record { at = 0 }) in
-          let h = argument_here c.args.self.now.sound c.args.auto.now c.loop-number.auto' c.args.variables.now c.loop-number.variables c.args.store.now c.loop-number.store c.args.findings.now.lines.items c.loop-number.findings.lines.items c.args.parameters.now
+          let h = argument_here c.args.self.now.sound c.args.auto.now c.loop-number.auto' c.args.variables.now c.loop-number.variables c.args.store.now c.loop-number.store (found_in c.args.findings.now) (found_in c.loop-number.findings) c.args.parameters.now
           c.args.arguments.now n id c.loop-number.invariant.walk c.loop-number-test.true (get_or_default c.args.arguments.now n (record { at = 0 }) id c.loop-number-test.true) in
           let w = h.0 in
           w.there;
@@ -316,8 +319,8 @@ in_arguments-see_argument-requires t c =
 pub in_arguments-returns : goal.in_arguments-returns
 in_arguments-returns t c =
     record {
-      lines =
-          arguments_end c.args.self.now.sound c.args.auto.now c.loop-number.auto' c.args.variables.now c.loop-number.variables c.args.store.now c.loop-number.store c.args.findings.now.lines.items c.loop-number.findings.lines.items c.args.parameters.now
+      found =
+          arguments_end c.args.self.now.sound c.args.auto.now c.loop-number.auto' c.args.variables.now c.loop-number.variables c.args.store.now c.loop-number.store (found_in c.args.findings.now) (found_in c.loop-number.findings) c.args.parameters.now
           c.args.arguments.now c.loop-number.number (drop_all c.loop-number.number c.args.arguments.now c.loop-number-test.false) c.loop-number.invariant.walk;
       variables = c.loop-number.invariant.walk.stays.variables;
       grows = c.loop-number.invariant.walk.stays.grows;
@@ -332,10 +335,10 @@ in_arguments-loop-number-preserved t c =
     let e = c.in_ok-state.ensures in
     record {
       walk = arguments_more c.args.self.now.sound c.args.auto.now c.loop-number.auto' c.in_expression.new.auto c.args.variables.now c.loop-number.variables c.in_expression.new.variables c.args.store.now c.loop-number.store c.in_expression.new.store
-          c.see_argument.new.store c.args.findings.now.lines.items c.loop-number.findings.lines.items c.in_expression.new.findings.lines.items c.see_argument.new.findings.lines.items c.args.parameters.now c.args.arguments.now n id c.in_ok-state.state c.requires.variables
+          c.see_argument.new.store (found_in c.args.findings.now) (found_in c.loop-number.findings) (found_in c.in_expression.new.findings) (found_in c.see_argument.new.findings) c.args.parameters.now c.args.arguments.now n id c.in_ok-state.state c.requires.variables
           c.loop-number.invariant.walk c.loop-number-test.true (get_or_default c.args.arguments.now n (record { at = 0 }) id c.loop-number-test.true) e.walked e.variables e.grows e.keeps
           (subst (λ o. AddsLines c.see_argument.new.store (LinesOfArgument c.in_expression.new.auto (place_of_expression (expr_at c.args.self.now.sound id.at)) c.in_ok-state.state o) c.in_expression.new.findings.lines.items c.see_argument.new.findings.lines.items) c.parameter_state-wanted.ensures
-          c.in_ok-see_argument.ensures.lines) c.in_ok-see_argument.ensures.keeps;
+          c.in_ok-see_argument.ensures.lines) c.in_ok-see_argument.ensures.met c.in_ok-see_argument.ensures.keeps;
       known = c.in_ok-see_argument.ensures.known;
     }
 
@@ -354,7 +357,7 @@ in_expression-in_clauses-requires t c =
     let patterns : AllByRecursion (λ (k : ℕ × ℕ). k.0 < m) cs = subst (ShapePatternsBelong m) form (c.node-node.ensures.clauses m stands) in
     let top = ceiling_within c.args.id.at (bodies cs) (bodies_below c.args.id.at cs older.1) in
     let fallen : 4 * ceiling (bodies cs) + 2 < t = omega arith in
-    let v = c.in_ok-value-in-Match.ensures in (
+    let v = c.in_ok-state-in-Match.ensures in (
       fallen,
       (
         ready_kept c.args.self.now c.args.auto.now c.in_expression-in-Match.new.auto v.grows c.requires.ready,
@@ -380,18 +383,22 @@ in_expression-returns-in_ok-in_clauses-in-Match t c =
           let ks : Clauses = clauses_of (placed_at p.patterns) (expr_at p) cs in
           let tree : expr_at p c.args.id.at ≡ Matched c.place-place.result x ks = expr_is p c.exprs.result.now c.args.id n.place n.form (match_shape c.in-Match.scrutinee.at cs) e (c.node-node.ensures.expression p.patterns) form
           ∙ ap (λ q. Matched q x ks) (sym c.place-place.ensures) in
-          let v = c.in_ok-value-in-Match.ensures in
+          let v = c.in_ok-state-in-Match.ensures in
           let w = v.walked S stands in
           let a1 = c.in_expression-in-Match.new.auto in
           let there : ScopeStands P S a1 c.in_expression-in-Match.new.variables = subst (ScopeStands P S a1) (sym v.variables) (scope_kept P S c.args.auto.now a1 v.grows c.args.variables.now c.requires.variables stands) in
-          let comes = comes_first P S x a1 c.in_ok-value-in-Match.value (Accepted a1 c.in_ok-value-in-Match.value) w.may (λ d. ((λ m. m), (λ m. m))) in
-          subst (λ y. IsWalked P S y c.in_clauses.new.auto c.in_clauses.new.store c.args.findings.now.lines.items c.in_clauses.new.findings.lines.items c.in_ok-in_clauses-in-Match.field-0) (sym tree)
-          (walked_matched P S c.place-place.result x ks a1 c.in_clauses.new.auto c.in_expression-in-Match.new.store c.in_clauses.new.store c.args.findings.now.lines.items c.in_expression-in-Match.new.findings.lines.items c.in_clauses.new.findings.lines.items
-          c.in_ok-value-in-Match.value c.in_ok-in_clauses-in-Match.field-0 c.in_clauses.ensures.keeps w (c.in_ok-in_clauses-in-Match.ensures.walked S x there comes));
-      variables = c.in_ok-in_clauses-in-Match.ensures.variables ∙ c.in_ok-value-in-Match.ensures.variables;
-      grows = grows_then c.args.auto.now c.in_expression-in-Match.new.auto c.in_clauses.new.auto c.in_ok-value-in-Match.ensures.grows c.in_ok-in_clauses-in-Match.ensures.grows;
+          let comes = comes_first P S x a1 c.in_ok-state-in-Match.state (Accepted a1 c.in_ok-state-in-Match.state) w.may (λ d. ((λ m. m), (λ m. m))) in
+          let x0 : MetMatch = record { expr = c.args.id; place = c.place-place.result; state = c.in_ok-state-in-Match.state } in
+          let none : c.replace-earlier.new.dest.items ≡ [] = ap (λ (v : Vec MetMatch Global). v.items) c.replace-earlier.ensures.after ∙ c.new.ensures.items in
+          let after : c.meet_before.new.inside.items ≡ c.args.findings.now.met.items ++ x0 ∷ c.in_expression-in-Match.new.findings.met.items = c.in_ok-meet_before-in-Match.ensures ∙ ap (λ (v : Vec MetMatch Global). v.items ++ x0 ∷ c.in_expression-in-Match.new.findings.met.items) c.replace-earlier.ensures.value in
+          subst (λ y. IsWalked p S y c.in_clauses.new.auto c.in_clauses.new.store (found_in c.args.findings.now) (found_in c.in_clauses.new.findings) c.in_ok-in_clauses-in-Match.field-0) (sym tree)
+          (walked_matched p S c.place-place.result x ks x0 a1 c.in_clauses.new.auto c.in_expression-in-Match.new.store c.in_clauses.new.store c.args.findings.now.lines.items c.replace-earlier.new.dest.items c.args.findings.now.met.items c.meet_before.new.inside.items
+          (found_in c.in_expression-in-Match.new.findings) (found_in c.in_clauses.new.findings) c.in_ok-state-in-Match.state c.in_ok-in_clauses-in-Match.field-0 c.in_ok-in_clauses-in-Match.ensures.grows c.in_clauses.ensures.keeps none after (record { match = tree; walkable = c.requires.expression; place = refl; belongs = v.belongs; exact = w.may }) w
+          (c.in_ok-in_clauses-in-Match.ensures.walked S x there comes));
+      variables = c.in_ok-in_clauses-in-Match.ensures.variables ∙ c.in_ok-state-in-Match.ensures.variables;
+      grows = grows_then c.args.auto.now c.in_expression-in-Match.new.auto c.in_clauses.new.auto c.in_ok-state-in-Match.ensures.grows c.in_ok-in_clauses-in-Match.ensures.grows;
       known = c.in_ok-in_clauses-in-Match.ensures.known;
-      keeps = Keeps-trans c.args.store.now c.in_expression-in-Match.new.store c.in_clauses.new.store c.in_ok-value-in-Match.ensures.keeps c.in_clauses.ensures.keeps;
+      keeps = Keeps-trans c.args.store.now c.in_expression-in-Match.new.store c.in_clauses.new.store c.in_ok-state-in-Match.ensures.keeps c.in_clauses.ensures.keeps;
     }
 
 pub in_call-returns-in_ok-add_state-in-None : goal.in_call-returns-in_ok-add_state-in-None
@@ -405,12 +412,14 @@ in_call-returns-in_ok-add_state-in-None t c =
           let ok = c.in_ok-add_state-in-None.ensures.ok in
           subst (λ o. (accepts c.add_state.new.self d c.in_ok-add_state-in-None.field-0 ≡ true) ↔ FitsResult (names_of P) o d) (sym none)
           ((λ m. never c.add_state.new.self c.in_ok-add_state-in-None.field-0 (new_moves c.in_arguments-in-None.new.auto c.add_state.new.self c.in_ok-add_state-in-None.field-0 false ok.0 ok.1) d m), (λ m. absurd m));
-      lines = λ S stands.
+      found = λ S stands.
           let P : ProgramTree = program_tree c.args.self.now.sound in
           let named = c.requires.ready.signatures.named c.args.word.now in
           let none = signed_none (names_of P) c.args.auto.now (function_of P.functions c.args.word.now) (signature_of c.args.self.now.signatures c.args.word.now) c.in-None.ensures named in
-          c.in_ok-in_arguments-in-None.ensures.lines S (parameters_of (function_of P.functions c.args.word.now)) stands
-          (subst (λ o. AreParameters (names_of P) c.args.auto.now (parameters_of o) []) (sym none) tt);
+          let e = c.in_ok-add_state-in-None.ensures in
+          adds_kept (record { extends = e.extends; keeps = e.keeps }) (Keeps-same c.in_arguments-in-None.new.store) (SeenInArguments P S (parameters_of (function_of P.functions c.args.word.now)) (arguments_of (map (expr_at c.args.self.now.sound) (expr_numbers c.args.arguments.now))))
+          (c.in_ok-in_arguments-in-None.ensures.found S (parameters_of (function_of P.functions c.args.word.now)) stands
+          (subst (λ o. AreParameters (names_of P) c.args.auto.now (parameters_of o) []) (sym none) tt));
       variables = c.in_ok-in_arguments-in-None.ensures.variables;
       grows =
           let e = c.in_ok-add_state-in-None.ensures in
@@ -452,13 +461,13 @@ in_clause-returns-in_default t c =
           let C = Accepted c.args.auto.now c.args.arriving in
           let made : IsNumbered (names_of P) (unplaced Q) c.args.clause.pattern.patterns.now c.args.clause.pattern.number = subst (λ T. IsNumbered (names_of P) T c.args.clause.pattern.patterns.now c.args.clause.pattern.number) (sym (unplaced_at p.patterns c.args.clause.clause.pattern.at)) c.requires.pattern in
           let dead : IsLiveIn P S e earlier Q → ⊥ = λ l. c.in_ok-found.ensures.dead (ap (λ o. Ok o) c.in_default.is) (names_of P) Q made (live_to P S e earlier C Q comes l) in
-          clause_dead P S e earlier Q (expr_at p c.args.clause.clause.body.at) c.bindings.new.auto c.bindings.new.store c.args.findings.now.lines.items c.push.new.self.items dead
+          clause_dead p S e earlier Q (expr_at p c.args.clause.clause.body.at) c.bindings.new.auto c.bindings.new.store (found_in c.args.findings.now) (record { lines = c.push.new.self.items; met = c.args.findings.now.met.items }) dead
           (record {
             more = record { place = c.pattern_place.result; finding = DeadClause } ∷ [];
             grown = c.in_ok-push.ensures.items;
             belong = (tt, tt);
             meet = ap (λ (q : Place). record { place = q; kind = dead_clause; document = None } ∷ []) c.pattern_place.ensures;
-          });
+          }) refl;
       variables = refl;
       grows = record { extends = c.in_ok-found.ensures.extends; keeps = c.in_ok-found.ensures.accepting };
       known =
@@ -508,7 +517,7 @@ in_clause-returns t c =
           let bound : AreMayGivens (names_of P) C [] Q c.bindings.new.auto gs = some_holds (λ hs. (D : Definitions) (R : PlacedTree) → IsNumbered D (unplaced R) c.args.clause.pattern.patterns.now c.args.clause.pattern.number → AreMayGivens D C [] R c.bindings.new.auto hs.items) c.in_ok-found.found c.in-Some.givens c.in-Some.is f.bindings (names_of P) Q made in
           let live : IsLiveIn P S e earlier Q = live_from P S e earlier C Q comes (some_holds (λ hs. (D : Definitions) (R : PlacedTree) → IsNumbered D (unplaced R) c.args.clause.pattern.patterns.now c.args.clause.pattern.number → IsLive D C [] R) c.in_ok-found.found c.in-Some.givens c.in-Some.is f.live (names_of P) Q made) in
           let inside = clause_scope P S e earlier C Q comes c.args.auto.now c.bindings.new.auto c.args.variables.now c.bring_in.new.variables gs grows c.requires.variables stands bound c.in_ok-bring_in.ensures in
-          clause_live P S e earlier Q (expr_at p c.args.clause.clause.body.at) c.in_expression.new.auto c.in_expression.new.store c.args.findings.now.lines.items c.in_expression.new.findings.lines.items c.in_ok-state.state live
+          clause_live p S e earlier Q (expr_at p c.args.clause.clause.body.at) c.in_expression.new.auto c.in_expression.new.store (found_in c.args.findings.now) (found_in c.in_expression.new.findings) c.in_ok-state.state live
           (c.in_ok-state.ensures.walked (clause_entry e earlier Q ∷ S) inside);
       variables =
           let same : c.in_expression.new.variables ≡ c.bring_in.new.variables = c.in_ok-state.ensures.variables in
@@ -550,11 +559,11 @@ in_call-returns-in_ok-in_arguments-in-Some t c =
           let grows = c.in_ok-in_arguments-in-Some.ensures.grows in
           let same : accepts c.in_arguments.new.auto d c.in-Some.signature.now.declared ≡ accepts c.args.auto.now d c.in-Some.signature.now.declared = grows.keeps d c.in-Some.signature.now.declared g.1 in
           ((λ m. (g.2 d).0 (sym same ∙ m)), (λ m. same ∙ (g.2 d).1 m));
-      lines = λ S stands.
+      found = λ S stands.
           let P : ProgramTree = program_tree c.args.self.now.sound in
           let named = c.requires.ready.signatures.named c.args.word.now in
           let g = signed_some (names_of P) c.args.auto.now (function_of P.functions c.args.word.now) (signature_of c.args.self.now.signatures c.args.word.now) c.in-Some.signature.now c.in-Some.ensures named in
-          c.in_ok-in_arguments-in-Some.ensures.lines S (parameters_of (function_of P.functions c.args.word.now)) stands
+          c.in_ok-in_arguments-in-Some.ensures.found S (parameters_of (function_of P.functions c.args.word.now)) stands
           (subst (AreParameters (names_of P) c.args.auto.now (parameters_of (function_of P.functions c.args.word.now))) (sym c.deref.ensures.value) g.0);
       variables = c.in_ok-in_arguments-in-Some.ensures.variables;
       grows = c.in_ok-in_arguments-in-Some.ensures.grows;
@@ -566,7 +575,7 @@ pub in_expression-returns-in_err-in_clauses-in-Match : goal.in_expression-return
 in_expression-returns-in_err-in_clauses-in-Match t c =
     let e = c.from_residual-in_err-in_clauses-in-Match.ensures.0 in
     let r = c.from_residual-in_err-in_clauses-in-Match.result in
-    record { belongs = IfOk-from_err r _ e; walked = IfOk-from_err r _ e; variables = IfOk-from_err r _ e; grows = IfOk-from_err r _ e; known = IfOk-from_err r _ e; keeps = Keeps-trans c.args.store.now c.in_expression-in-Match.new.store c.in_clauses.new.store c.in_ok-value-in-Match.ensures.keeps c.in_clauses.ensures.keeps }
+    record { belongs = IfOk-from_err r _ e; walked = IfOk-from_err r _ e; variables = IfOk-from_err r _ e; grows = IfOk-from_err r _ e; known = IfOk-from_err r _ e; keeps = Keeps-trans c.args.store.now c.in_expression-in-Match.new.store c.in_clauses.new.store c.in_ok-state-in-Match.ensures.keeps c.in_clauses.ensures.keeps }
 
 pub in_clause-returns-in_err-state : goal.in_clause-returns-in_err-state
 in_clause-returns-in_err-state t c =
@@ -590,7 +599,7 @@ pub in_arguments-returns-in_err-state : goal.in_arguments-returns-in_err-state
 in_arguments-returns-in_err-state t c =
     let e = c.from_residual.ensures.0 in
     let r = c.from_residual.result in
-    record { lines = IfOk-from_err r _ e; variables = IfOk-from_err r _ e; grows = IfOk-from_err r _ e; known = IfOk-from_err r _ e; keeps = Keeps-trans c.args.store.now c.loop-number.store c.in_expression.new.store c.loop-number.invariant.walk.stays.keeps c.in_expression.ensures.keeps }
+    record { found = IfOk-from_err r _ e; variables = IfOk-from_err r _ e; grows = IfOk-from_err r _ e; known = IfOk-from_err r _ e; keeps = Keeps-trans c.args.store.now c.loop-number.store c.in_expression.new.store c.loop-number.invariant.walk.stays.keeps c.in_expression.ensures.keeps }
 
 pub in_match-returns-in_err-found : goal.in_match-returns-in_err-found
 in_match-returns-in_err-found t c =
@@ -638,7 +647,7 @@ pub in_arguments-returns-in_err-see_argument : goal.in_arguments-returns-in_err-
 in_arguments-returns-in_err-see_argument t c =
     let e = c.from_residual-in_err-see_argument.ensures.0 in
     let r = c.from_residual-in_err-see_argument.result in
-    record { lines = IfOk-from_err r _ e; variables = IfOk-from_err r _ e; grows = IfOk-from_err r _ e; known = IfOk-from_err r _ e; keeps = Keeps-trans c.args.store.now c.loop-number.store c.see_argument.new.store c.loop-number.invariant.walk.stays.keeps (Keeps-trans c.loop-number.store c.in_expression.new.store c.see_argument.new.store c.in_expression.ensures.keeps c.see_argument.ensures.keeps) }
+    record { found = IfOk-from_err r _ e; variables = IfOk-from_err r _ e; grows = IfOk-from_err r _ e; known = IfOk-from_err r _ e; keeps = Keeps-trans c.args.store.now c.loop-number.store c.see_argument.new.store c.loop-number.invariant.walk.stays.keeps (Keeps-trans c.loop-number.store c.in_expression.new.store c.see_argument.new.store c.in_expression.ensures.keeps c.see_argument.ensures.keeps) }
 
 pub in_expression-returns-in_err-add_state-in-Empty : goal.in_expression-returns-in_err-add_state-in-Empty
 in_expression-returns-in_err-add_state-in-Empty t c =
@@ -688,10 +697,10 @@ in_expression-returns-in_err-in_call-in-Call t c =
     let r = c.from_residual-in_err-in_call-in-Call.result in
     record { belongs = IfOk-from_err r _ e; walked = IfOk-from_err r _ e; variables = IfOk-from_err r _ e; grows = IfOk-from_err r _ e; known = IfOk-from_err r _ e; keeps = c.in_call.ensures.keeps }
 
-pub in_expression-returns-in_err-value-in-Match : goal.in_expression-returns-in_err-value-in-Match
-in_expression-returns-in_err-value-in-Match t c =
-    let e = c.from_residual-in_err-value-in-Match.ensures.0 in
-    let r = c.from_residual-in_err-value-in-Match.result in
+pub in_expression-returns-in_err-state-in-Match : goal.in_expression-returns-in_err-state-in-Match
+in_expression-returns-in_err-state-in-Match t c =
+    let e = c.from_residual-in_err-state-in-Match.ensures.0 in
+    let r = c.from_residual-in_err-state-in-Match.result in
     record { belongs = IfOk-from_err r _ e; walked = IfOk-from_err r _ e; variables = IfOk-from_err r _ e; grows = IfOk-from_err r _ e; known = IfOk-from_err r _ e; keeps = c.in_expression-in-Match.ensures.keeps }
 
 pub in_clause-returns-in_err-found : goal.in_clause-returns-in_err-found
@@ -716,19 +725,19 @@ pub in_call-returns-in_err-in_arguments-in-Some : goal.in_call-returns-in_err-in
 in_call-returns-in_err-in_arguments-in-Some t c =
     let e = c.from_residual.ensures.0 in
     let r = c.from_residual.result in
-    record { belongs = IfOk-from_err r _ e; result = IfOk-from_err r _ e; lines = IfOk-from_err r _ e; variables = IfOk-from_err r _ e; grows = IfOk-from_err r _ e; known = IfOk-from_err r _ e; keeps = c.in_arguments.ensures.keeps }
+    record { belongs = IfOk-from_err r _ e; result = IfOk-from_err r _ e; found = IfOk-from_err r _ e; variables = IfOk-from_err r _ e; grows = IfOk-from_err r _ e; known = IfOk-from_err r _ e; keeps = c.in_arguments.ensures.keeps }
 
 pub in_call-returns-in_err-in_arguments-in-None : goal.in_call-returns-in_err-in_arguments-in-None
 in_call-returns-in_err-in_arguments-in-None t c =
     let e = c.from_residual-in_err-in_arguments-in-None.ensures.0 in
     let r = c.from_residual-in_err-in_arguments-in-None.result in
-    record { belongs = IfOk-from_err r _ e; result = IfOk-from_err r _ e; lines = IfOk-from_err r _ e; variables = IfOk-from_err r _ e; grows = IfOk-from_err r _ e; known = IfOk-from_err r _ e; keeps = c.in_arguments-in-None.ensures.keeps }
+    record { belongs = IfOk-from_err r _ e; result = IfOk-from_err r _ e; found = IfOk-from_err r _ e; variables = IfOk-from_err r _ e; grows = IfOk-from_err r _ e; known = IfOk-from_err r _ e; keeps = c.in_arguments-in-None.ensures.keeps }
 
 pub in_call-returns-in_err-add_state-in-None : goal.in_call-returns-in_err-add_state-in-None
 in_call-returns-in_err-add_state-in-None t c =
     let e = c.from_residual-in_err-add_state-in-None.ensures.0 in
     let r = c.from_residual-in_err-add_state-in-None.result in
-    record { belongs = IfOk-from_err r _ e; result = IfOk-from_err r _ e; lines = IfOk-from_err r _ e; variables = IfOk-from_err r _ e; grows = IfOk-from_err r _ e; known = IfOk-from_err r _ e; keeps = c.in_arguments-in-None.ensures.keeps }
+    record { belongs = IfOk-from_err r _ e; result = IfOk-from_err r _ e; found = IfOk-from_err r _ e; variables = IfOk-from_err r _ e; grows = IfOk-from_err r _ e; known = IfOk-from_err r _ e; keeps = c.in_arguments-in-None.ensures.keeps }
 
 pub in_parts-loop-part-smaller : goal.in_parts-loop-part-smaller
 in_parts-loop-part-smaller t c = falls (length c.args.parts.now) c.loop-part.part-index c.loop-part-test.true
@@ -767,9 +776,9 @@ in_match-loop-number-init t c =
     let m : CompiledPatterns = c.args.compiled.patterns.now in
     let made = c.in_ok-remaining.ensures in
     record {
-      walk = subst (λ ss. ClausesLoop c.args.self.now.sound m c.args.compiled.place a a c.args.variables.now c.args.variables.now c.args.store.now c.args.store.now c.args.findings.now.lines.items c.args.findings.now.lines.items c.args.compiled.clauses.now 0 ss c.args.scrutinee c.in_ok-remaining.remaining)
+      walk = subst (λ ss. ClausesLoop c.args.self.now.sound m c.args.compiled.place a a c.args.variables.now c.args.variables.now c.args.store.now c.args.store.now (found_in c.args.findings.now) (found_in c.args.findings.now) c.args.compiled.clauses.now 0 ss c.args.scrutinee c.in_ok-remaining.remaining)
           (sym c.new-states.ensures.items)
-          (clauses_loop_begin c.args.self.now.sound m c.args.compiled.place a c.args.variables.now c.args.store.now c.args.findings.now.lines.items c.args.compiled.clauses.now c.args.scrutinee c.in_ok-remaining.remaining c.requires.clauses (made.stands a m c.requires.scrutinee)
+          (clauses_loop_begin c.args.self.now.sound m c.args.compiled.place a c.args.variables.now c.args.store.now (found_in c.args.findings.now) c.args.compiled.clauses.now c.args.scrutinee c.in_ok-remaining.remaining c.requires.clauses (made.stands a m c.requires.scrutinee)
           (λ d. made.remains a m d));
       known = c.requires.known;
     }
@@ -868,12 +877,12 @@ in_match-loop-number-preserved t c =
     let Q : PlacedTree = placed_at p.patterns (k.pattern).at in
     let made : IsNumbered E (unplaced Q) m x.number = subst (λ T. IsNumbered E T m x.number) (sym (unplaced_at p.patterns (k.pattern).at))
     (numbered_here p c.args.auto.now cs c.args.compiled.patterns.now c.args.compiled.numbers.now c.requires.compiled n k m x.number c.loop-number-test.true (get_or_default cs n none k c.loop-number-test.true) is c.pattern-pattern.ensures.number) in
-    let before : ClausesLoop p m c.args.compiled.place c.args.auto.now c.loop-number.auto' c.args.variables.now c.loop-number.variables c.args.store.now c.loop-number.store c.args.findings.now.lines.items c.loop-number.findings.lines.items cs n c.loop-number.states.items c.args.scrutinee c.loop-number.remaining
-    = subst (λ (y : CompiledPatterns). ClausesLoop p y c.args.compiled.place c.args.auto.now c.loop-number.auto' c.args.variables.now c.loop-number.variables c.args.store.now c.loop-number.store c.args.findings.now.lines.items c.loop-number.findings.lines.items cs n c.loop-number.states.items c.args.scrutinee c.loop-number.remaining) (sym is) c.loop-number.invariant.walk in
+    let before : ClausesLoop p m c.args.compiled.place c.args.auto.now c.loop-number.auto' c.args.variables.now c.loop-number.variables c.args.store.now c.loop-number.store (found_in c.args.findings.now) (found_in c.loop-number.findings) cs n c.loop-number.states.items c.args.scrutinee c.loop-number.remaining
+    = subst (λ (y : CompiledPatterns). ClausesLoop p y c.args.compiled.place c.args.auto.now c.loop-number.auto' c.args.variables.now c.loop-number.variables c.args.store.now c.loop-number.store (found_in c.args.findings.now) (found_in c.loop-number.findings) cs n c.loop-number.states.items c.args.scrutinee c.loop-number.remaining) (sym is) c.loop-number.invariant.walk in
     record {
-      walk = subst (λ (y : CompiledPatterns). ClausesLoop p y c.args.compiled.place c.args.auto.now d c.args.variables.now c.in_clause.new.variables c.args.store.now c.in_clause.new.store c.args.findings.now.lines.items c.in_clause.new.findings.lines.items cs (n + 1) c.pass_found.new.states.items c.args.scrutinee c.in_ok-remaining-2.remaining) is
+      walk = subst (λ (y : CompiledPatterns). ClausesLoop p y c.args.compiled.place c.args.auto.now d c.args.variables.now c.in_clause.new.variables c.args.store.now c.in_clause.new.store (found_in c.args.findings.now) (found_in c.in_clause.new.findings) cs (n + 1) c.pass_found.new.states.items c.args.scrutinee c.in_ok-remaining-2.remaining) is
           (clauses_loop_more p m c.args.compiled.place c.args.auto.now c.loop-number.auto' b d c.args.variables.now c.loop-number.variables c.in_clause.new.variables c.args.store.now c.loop-number.store c.in_clause.new.store
-          c.args.findings.now.lines.items c.loop-number.findings.lines.items c.in_clause.new.findings.lines.items cs n c.loop-number.states.items c.pass_found.new.states.items c.args.scrutinee c.in_ok-coming.arriving c.loop-number.remaining c.in_ok-coming.coming c.in_ok-remaining-2.remaining k c.in_ok-found.found
+          (found_in c.args.findings.now) (found_in c.loop-number.findings) (found_in c.in_clause.new.findings) cs n c.loop-number.states.items c.pass_found.new.states.items c.args.scrutinee c.in_ok-coming.arriving c.loop-number.remaining c.in_ok-coming.coming c.in_ok-remaining-2.remaining k c.in_ok-found.found
           c.requires.variables before c.loop-number-test.true (get_or_default cs n none k c.loop-number-test.true) one a.stands a.remains (a.comes E Q made) f.walked f.variables f.grows f.keeps w.states f.belongs
           (w.stands d (stands_on b d m c.in_ok-coming.coming f.grows a.stands)) (w.remains E Q made d));
       known = f.known;
@@ -896,10 +905,16 @@ in_match-returns t c =
       belongs = c.in_ok-unite_states.ensures.belongs;
       walked =
           clauses_loop_end c.args.self.now.sound c.args.compiled.patterns.now c.args.compiled.place c.args.auto.now c.loop-number.auto' c.left_over.new.auto c.unite_states.new.auto c.args.variables.now c.loop-number.variables c.args.store.now c.loop-number.store c.see_uncovered.new.store
-          c.args.findings.now.lines.items c.loop-number.findings.lines.items c.see_uncovered.new.findings.lines.items c.args.compiled.clauses.now c.loop-number.number c.loop-number.states.items c.args.scrutinee c.in_ok-left.left c.in_ok-unite_states.field-0 c.loop-number.remaining
-          (drop_all c.loop-number.number c.args.compiled.clauses.now c.loop-number-test.false) h.walk over left.exact c.in_ok-see_uncovered.ensures.keeps c.in_ok-see_uncovered.ensures.lines c.in_ok-unite_states.ensures.accepts;
+          (found_in c.args.findings.now) (found_in c.loop-number.findings) (found_in c.see_uncovered.new.findings) c.args.compiled.clauses.now c.loop-number.number c.loop-number.states.items c.args.scrutinee c.in_ok-left.left c.in_ok-unite_states.field-0 c.loop-number.remaining
+          (drop_all c.loop-number.number c.args.compiled.clauses.now c.loop-number-test.false) h.walk over c.in_ok-unite_states.ensures.grows left.exact c.in_ok-see_uncovered.ensures.keeps c.in_ok-see_uncovered.ensures.lines c.in_ok-see_uncovered.ensures.met c.in_ok-unite_states.ensures.accepts;
       variables = h.walk.stays.variables;
       grows = grows_then c.args.auto.now c.loop-number.auto' c.unite_states.new.auto h.walk.stays.grows g;
       known = known_kept c.left_over.new.auto c.unite_states.new.auto c.see_uncovered.new.store c.see_uncovered.new.store c.see_uncovered.new.findings.known c.in_ok-unite_states.ensures.grows (Keeps-same c.see_uncovered.new.store) c.in_ok-see_uncovered.ensures.known;
       keeps = Keeps-trans c.args.store.now c.loop-number.store c.see_uncovered.new.store h.walk.stays.keeps c.in_ok-see_uncovered.ensures.keeps;
     }
+
+pub in_expression-returns-in_err-meet_before-in-Match : goal.in_expression-returns-in_err-meet_before-in-Match
+in_expression-returns-in_err-meet_before-in-Match t c =
+    let e = c.from_residual-in_err-meet_before-in-Match.ensures.0 in
+    let r = c.from_residual-in_err-meet_before-in-Match.result in
+    record { belongs = IfOk-from_err r _ e; walked = IfOk-from_err r _ e; variables = IfOk-from_err r _ e; grows = IfOk-from_err r _ e; known = IfOk-from_err r _ e; keeps = c.in_ok-state-in-Match.ensures.keeps }

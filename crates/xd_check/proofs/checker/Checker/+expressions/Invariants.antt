@@ -1,5 +1,6 @@
 use Rattle.std.proofs.Common.{◌+◌, ◌*◌}
 use Rattle.xd_syntax.specs.Exprs.{clause_numbers, expr_numbers}
+use Rattle.xd_check_steps.specs.Found.{found_in}
 use Rattle.xd_check_steps.specs.Known.{IsKnown}
 use Rattle.xd_check.proofs.Loops.{ArgumentsLoop, PartsLoop}
 use Rattle.xd_check_steps.proofs.Ceilings.{bodies, ceiling}
@@ -29,18 +30,18 @@ decreases-in_clause l = 4 * l.clause.clause.body.at + 4
 
 abbrev pub invariant-in_parts-loop-part : goal.invariant-in_parts-loop-part
 invariant-in_parts-loop-part l = record {
-  walk : PartsLoop l.self.sound l.initial.auto' l.auto' l.initial.variables l.variables l.initial.store l.store l.initial.findings.lines.items l.findings.lines.items l.parts l.part-index l.states.items;
+  walk : PartsLoop l.self.sound l.initial.auto' l.auto' l.initial.variables l.variables l.initial.store l.store (found_in l.initial.findings) (found_in l.findings) l.parts l.part-index l.states.items;
   known : IsKnown l.auto' l.store l.findings.known;
 }
 
 abbrev pub invariant-in_arguments-loop-number : goal.invariant-in_arguments-loop-number
 invariant-in_arguments-loop-number l = record {
-  walk : ArgumentsLoop l.self.sound l.initial.auto' l.auto' l.initial.variables l.variables l.initial.store l.store l.initial.findings.lines.items l.findings.lines.items l.parameters l.arguments l.number;
+  walk : ArgumentsLoop l.self.sound l.initial.auto' l.auto' l.initial.variables l.variables l.initial.store l.store (found_in l.initial.findings) (found_in l.findings) l.parameters l.arguments l.number;
   known : IsKnown l.auto' l.store l.findings.known;
 }
 
 abbrev pub invariant-in_match-loop-number : goal.invariant-in_match-loop-number
 invariant-in_match-loop-number l = record {
-  walk : ClausesLoop l.self.sound l.compiled.patterns.now l.compiled.place l.initial.auto' l.auto' l.initial.variables l.variables l.initial.store l.store l.initial.findings.lines.items l.findings.lines.items l.compiled.clauses.now l.number l.states.items l.fn.scrutinee l.remaining;
+  walk : ClausesLoop l.self.sound l.compiled.patterns.now l.compiled.place l.initial.auto' l.auto' l.initial.variables l.variables l.initial.store l.store (found_in l.initial.findings) (found_in l.findings) l.compiled.clauses.now l.number l.states.items l.fn.scrutinee l.remaining;
   known : IsKnown l.auto' l.store l.findings.known;
 }

@@ -7,11 +7,11 @@ use Rattle.xd_syntax.specs.Kept.{FunctionStands, ProgramStands, ProgramTable, fu
 use Rattle.xd_syntax.specs.Program.{ProgramTree}
 use Rattle.xd_syntax.specs.Ways.{Among}
 use Rattle.xd_syntax.specs.NameFaults.{name_faults}
-use Rattle.xd_syntax.specs.CheckFaults.{LinesOfFunction}
 use Rattle.xd_sound.proofs.Lists.{among_at}
 use Rattle.xd_syntax.proofs.Members.{map_mem}
 use Rattle.xd_check_steps.specs.declared.signatures.Signature.{Signature}
-use Rattle.xd_check_steps.specs.FoundLines.{AddsLines, told_size}
+use Rattle.xd_check_steps.specs.Found.{AddsFound, found_in}
+use Rattle.xd_check.specs.Walked.{SeenInFunction}
 use Rattle.xd_check_steps.proofs.Walkable.{walk_body}
 use Rattle.xd_check.proofs.FunctionLoop.{rows_count, signature_at_row}
 use Rattle.xd_check.proofs.checker.Checker.in_function.Goals as goal
@@ -39,13 +39,13 @@ in_body-requires c =
 pub returns : goal.returns
 returns c =
     record {
-      lines = λ h k.
+      found = λ h k.
           let p : ProgramTable = c.args.self.now.sound in
           let f : FunctionRow = c.index-functions-number.result in
           let same : c.functions.result.now ≡ p.functions = c.functions.ensures.functions ∙ ap (λ (q : ProgramTable). q.functions) c.program.ensures.program in
           let at : f ≡ get_or p.functions c.args.number f = c.index-functions-number.is ∙ ap (λ fs. get_or fs c.args.number f) same in
           let twin : h ≡ f = k ∙ sym (get_or_default p.functions c.args.number f h c.requires.number) ∙ sym at in
-          subst (λ (y : FunctionRow). AddsLines c.in_body.new.store (LinesOfFunction told_size (program_tree p) (function_definition p y)) c.args.findings.now.lines.items c.in_body.new.findings.lines.items) (sym twin) c.in_ok-in_body.ensures.lines;
+          subst (λ (y : FunctionRow). AddsFound p c.in_body.new.auto c.in_body.new.store (SeenInFunction (program_tree p) (function_definition p y)) (found_in c.args.findings.now) (found_in c.in_body.new.findings)) (sym twin) c.in_ok-in_body.ensures.found;
       grows = c.in_ok-in_body.ensures.grows;
       known = c.in_ok-in_body.ensures.known;
       keeps = c.in_ok-in_body.ensures.keeps;
@@ -63,7 +63,7 @@ returns-in_err-in_body c =
     let e = c.from_residual.ensures.0 in
     let r = c.from_residual.result in
     record {
-      lines = IfOk-from_err r _ e;
+      found = IfOk-from_err r _ e;
       grows = IfOk-from_err r _ e;
       known = IfOk-from_err r _ e;
       keeps = c.in_body.ensures.keeps;

@@ -1,4 +1,3 @@
-use Rattle.std.proofs.lemmas.Result.{IfOk-from_err}
 use Rattle.std.proofs.Common.{List, [], ◌∷◌, ◌++◌, Ok, refl, ap, subst, ◌∙◌}
 use Rattle.std.specs.Option.{IfSome}
 use Rattle.xd_base.specs.declared.Place.{Place}
@@ -17,59 +16,18 @@ use Rattle.xd_check_steps.specs.States.{IsMisfit}
 use Rattle.xd_check_steps.proofs.LineLists.{adds_nowhere, adds_where}
 use Rattle.xd_check.proofs.checker.Checker.see_result.Goals as goal
 
-pub returns-in_ok-push : goal.returns-in_ok-push
-returns-in_ok-push c =
-    record {
-      lines =
-          let ds : List Document = c.misfit.new.store in
-          let seq : Seq = c.in-Some.document in
-          let old : List FoundLine = c.args.findings.now.lines.items in
-          let e = c.in_ok-document.ensures in
-          let taken : IsLeastUpTo size_limit (IsMisfit c.args.auto.now c.args.state c.args.wanted) (document_at ds seq) = subst (λ o. IfSome o (λ q. IsLeastUpTo size_limit (IsMisfit c.args.auto.now c.args.state c.args.wanted) (document_at ds q))) c.in-Some.is e.least in
-          let there : BelongsTo ds seq = subst (λ o. IfSome o (BelongsTo ds)) c.in-Some.is e.belongs in
-          adds_where ds (place_of_expression (expr_at c.args.self.now.sound c.args.body.at)) (IsMisfit c.args.auto.now c.args.state c.args.wanted) old c.push.new.self.items (Result seq) seq
-          (c.in_ok-push.ensures.items ∙ ap (λ (q : Place). old ++ record { place = q; finding = Result seq } ∷ []) c.place_of.ensures) there refl there taken;
-      known = c.in_ok-document.ensures.known;
-      keeps = c.in_ok-document.ensures.keeps;
-    }
+pub returns-in_ok-push-clause-lines : goal.returns-in_ok-push-clause-lines
+returns-in_ok-push-clause-lines c =
+    let ds : List Document = c.misfit.new.store in
+    let seq : Seq = c.in-Some.document in
+    let old : List FoundLine = c.args.findings.now.lines.items in
+    let e = c.in_ok-document.ensures in
+    let taken : IsLeastUpTo size_limit (IsMisfit c.args.auto.now c.args.state c.args.wanted) (document_at ds seq) = subst (λ o. IfSome o (λ q. IsLeastUpTo size_limit (IsMisfit c.args.auto.now c.args.state c.args.wanted) (document_at ds q))) c.in-Some.is e.least in
+    let there : BelongsTo ds seq = subst (λ o. IfSome o (BelongsTo ds)) c.in-Some.is e.belongs in
+    adds_where ds (place_of_expression (expr_at c.args.self.now.sound c.args.body.at)) (IsMisfit c.args.auto.now c.args.state c.args.wanted) old c.push.new.self.items (Result seq) seq
+    (c.in_ok-push.ensures.items ∙ ap (λ (q : Place). old ++ record { place = q; finding = Result seq } ∷ []) c.place_of.ensures) there refl there taken
 
-pub returns-in_default : goal.returns-in_default
-returns-in_default c =
-    record {
-      lines =
-          adds_nowhere c.misfit.new.store (place_of_expression (expr_at c.args.self.now.sound c.args.body.at)) wrong_result (IsMisfit c.args.auto.now c.args.state c.args.wanted)
-          (λ d h. h.1 (c.in_ok-document.ensures.none (ap (λ o. Ok o) c.in_default.is) d h.0)) c.args.findings.now.lines.items c.args.findings.now.lines.items refl;
-      known = c.in_ok-document.ensures.known;
-      keeps = c.in_ok-document.ensures.keeps;
-    }
-
-pub misfit-requires : goal.misfit-requires
-misfit-requires c =
-    record {
-      state = c.requires.state;
-      wanted = c.requires.wanted;
-      known = c.requires.known;
-    }
-
-pub returns-in_err-document : goal.returns-in_err-document
-returns-in_err-document c =
-    let e = c.from_residual.ensures.0 in
-    let r = c.from_residual.result in
-    record {
-      lines = IfOk-from_err r _ e;
-      known = IfOk-from_err r _ e;
-      keeps = c.misfit.ensures.keeps;
-    }
-
-pub returns-in_err-push : goal.returns-in_err-push
-returns-in_err-push c =
-    let e = c.from_residual-in_err-push.ensures.0 in
-    let r = c.from_residual-in_err-push.result in
-    record {
-      lines = IfOk-from_err r _ e;
-      known = IfOk-from_err r _ e;
-      keeps = c.in_ok-document.ensures.keeps;
-    }
-
-pub place_of-requires : goal.place_of-requires
-place_of-requires c = c.requires.body
+pub returns-in_default-clause-lines : goal.returns-in_default-clause-lines
+returns-in_default-clause-lines c =
+    adds_nowhere c.misfit.new.store (place_of_expression (expr_at c.args.self.now.sound c.args.body.at)) wrong_result (IsMisfit c.args.auto.now c.args.state c.args.wanted)
+    (λ d h. h.1 (c.in_ok-document.ensures.none (ap (λ o. Ok o) c.in_default.is) d h.0)) c.args.findings.now.lines.items c.args.findings.now.lines.items refl

@@ -1,6 +1,6 @@
 use Rattle.std.proofs.Common.{ℕ, get_or}
 use Rattle.std.proofs.lemmas.List.{drop_all, get_or_default}
-use Rattle.xd_scrutinees.specs.declared.matches.MetMatch.{MetMatch}
+use Rattle.xd_check_steps.specs.declared.findings.MetMatch.{MetMatch}
 use Rattle.xd_variables.specs.Bound.{reading_of}
 use Rattle.xd_variables.proofs.MatchLoop.{match_here, matches_begin, matches_end, matches_more}
 use Rattle.xd_variables.proofs.ReadingLemmas.{reader_kept}
