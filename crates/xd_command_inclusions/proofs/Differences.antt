@@ -8,7 +8,7 @@ use Rattle.xd_doc.specs.Document.{Document, is_proper}
 use Rattle.xd_syntax.specs.Tree.{Tree, Definitions}
 use Rattle.xd_command_documents.specs.FitsByState.{IsAcceptor}
 use Rattle.xd_command_inclusions.specs.MinusAlone.{IsAlone}
-use Rattle.xd_command_inclusions.specs.Subtype.{FitsAlone}
+use Rattle.xd_inclusion.specs.Inclusion.{FitsAlone}
 
 both : (a b : Bool) → (a && not b) ≡ true → (a ≡ true) × (b ≡ true → ⊥)
 both true true e = absurd (not_true_and_false e)

@@ -1,4 +1,3 @@
-pub mod Inclusions
 pub mod Differences
 pub mod Separations
 pub mod VerifyLemmas

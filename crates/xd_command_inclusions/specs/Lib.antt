@@ -1,5 +1,5 @@
 pub mod Subtype
-pub mod SubtypeByState
+pub mod Named
 pub mod Minus
 pub mod MinusAlone
 pub mod Verify

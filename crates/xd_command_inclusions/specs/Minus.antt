@@ -6,7 +6,8 @@ use Rattle.xd_syntax.specs.Program.{ProgramTree, names_of}
 use Rattle.xd_syntax.specs.Sound.{type_named}
 use Rattle.xd_syntax.specs.Tree.{Tree}
 use Rattle.xd_command_steps.specs.Output.{Output}
-use Rattle.xd_command_inclusions.specs.Subtype.{EndsAtNames, FitsAlone, undefined_names}
+use Rattle.xd_inclusion.specs.Inclusion.{FitsAlone}
+use Rattle.xd_command_inclusions.specs.Subtype.{EndsAtNames, undefined_names}
 
 -- the text of definitions that show the documents of the first type alone, by names that no type of
 -- the program has

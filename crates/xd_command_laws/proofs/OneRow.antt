@@ -29,7 +29,8 @@ use Rattle.xd_command_steps.specs.Step.{Step}
 use Rattle.xd_command_steps.proofs.OneStep.{steps_are_one, counts_tell_nothing}
 use Rattle.xd_command_documents.specs.Fits.{EndsAtName, AnswersMembership, AnswersFits, FitsType}
 use Rattle.xd_command_documents.specs.Stream.{TellsStop, AnswersBytes, AnswersStream}
-use Rattle.xd_command_inclusions.specs.Subtype.{AnswersInclusion, AnswersSubtype, FitsAlone}
+use Rattle.xd_inclusion.specs.Inclusion.{FitsAlone}
+use Rattle.xd_command_inclusions.specs.Subtype.{AnswersInclusion, AnswersSubtype}
 use Rattle.xd_command_documents.specs.Least.{AnswersLeastOf, AnswersLeast}
 use Rattle.xd_command_inclusions.specs.Verify.{Judges, AnswersVerify, AnswersUpgrade, Upgrades}
 use Rattle.xd_command_programs.specs.Check.{with_verdict, AnswersCheck}

@@ -12,7 +12,7 @@ use Rattle.xd_syntax.specs.Tree.{Tree, Name}
 use Rattle.xd_type_laws.specs.DefinitionsText.{type_definitions}
 use Rattle.xd_variables.specs.Seen.{Gives, Reading}
 use Rattle.xd_command_laws.specs.ReadBack.{SpellsTypesOf, DifferencesReadBack, BlockReadsBack, BlocksReadBack}
-use Rattle.xd_command_inclusions.specs.Subtype.{FitsAlone}
+use Rattle.xd_inclusion.specs.Inclusion.{FitsAlone}
 
 -- a program's names are those of its definitions
 abbrev first_of : List ℕ × Tree → List ℕ

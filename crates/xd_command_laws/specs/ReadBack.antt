@@ -13,7 +13,7 @@ use Rattle.xd_parse_trees.specs.Means.{BytesSpellProgram}
 use Rattle.xd_variables.specs.Seen.{Gives, Reading, SeenVariable}
 use Rattle.xd_command_steps.specs.Output.{Output}
 use Rattle.xd_command_inclusions.specs.Minus.{AnswersDifference}
-use Rattle.xd_command_inclusions.specs.Subtype.{FitsAlone}
+use Rattle.xd_inclusion.specs.Inclusion.{FitsAlone}
 
 -- The text spells a program of definitions of types alone, and of proper documents just those of
 -- the set fit the first.

@@ -1,2 +1,3 @@
 pub mod Inclusion
+pub mod Compared
 pub mod States

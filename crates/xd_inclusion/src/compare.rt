@@ -8,7 +8,7 @@ ghost use Rattle.xd_syntax.specs.ShallowTables.{IsShallow};
 ghost use Rattle.xd_syntax.specs.Tree.{Tree};
 ghost use Rattle.xd_syntax.specs.Types as types;
 ghost use Rattle.xd_proof_make.specs.Made.{UsesDefined};
-ghost use Rattle.xd_inclusion.specs.Inclusion.{IsInclusion};
+ghost use Rattle.xd_inclusion.specs.Compared.{IsInclusion};
 ghost use Rattle.xd_inclusion.specs.States.{IsKnownState, IsStateOf};
 
 use crate::states::{compile_both, prove_goal};

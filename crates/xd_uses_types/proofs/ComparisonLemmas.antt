@@ -18,7 +18,7 @@ use Rattle.xd_syntax.proofs.PlacedTrees.{unplaced_at}
 use Rattle.xd_sound.proofs.AdoptLaws.{type_kept}
 use Rattle.xd_parse_trees.specs.Means.{IsProgramText, IsTypeText}
 use Rattle.xd_proof.specs.TypeTexts.{SpellsType}
-use Rattle.xd_inclusion.specs.Inclusion.{IsInclusion}
+use Rattle.xd_inclusion.specs.Compared.{IsInclusion}
 use Rattle.xd_inclusion.specs.declared.compare.Inclusion.{Inclusion}
 use Rattle.xd_uses_types.specs.Comparison.{Compares, IsReadType}
 

@@ -9,7 +9,7 @@ use Rattle.xd_syntax.specs.Program.{ProgramTree}
 use Rattle.xd_syntax.specs.declared.types.TypeId.{TypeId}
 use Rattle.xd_parse_trees.specs.Means.{IsProgramText}
 use Rattle.xd_proof.specs.TypeTexts.{SpellsType}
-use Rattle.xd_inclusion.specs.Inclusion.{IsInclusion}
+use Rattle.xd_inclusion.specs.Compared.{IsInclusion}
 use Rattle.xd_inclusion.specs.declared.compare.Inclusion.{Inclusion}
 
 -- the id is that of the type that the bytes spell, over names that the program defines

@@ -3,7 +3,7 @@ use Rattle.std.specs.Result.{IfOk}
 use Rattle.xd_proof_make.specs.Made.{UsesDefined}
 use Rattle.xd_syntax.specs.Types.{tree}
 use Rattle.xd_sound.proofs.AdoptLaws.{AddsTypes-trans}
-use Rattle.xd_inclusion.specs.Inclusion.{IsInclusion}
+use Rattle.xd_inclusion.specs.Compared.{IsInclusion}
 use Rattle.xd_inclusion.proofs.compare.compare_in.Goals as goal
 
 pub compare_states-requires-clause-left : goal.compare_states-requires-clause-left

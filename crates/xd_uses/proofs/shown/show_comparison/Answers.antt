@@ -1,5 +1,5 @@
 use Rattle.std.proofs.Common.{subst}
-use Rattle.xd_inclusion.specs.Inclusion.{IsInclusion}
+use Rattle.xd_inclusion.specs.Compared.{IsInclusion}
 use Rattle.xd_uses.proofs.shown.show_comparison.Goals as goal
 
 pub write_document-requires : goal.write_document-requires

@@ -4,7 +4,7 @@ use Rattle.xd_syntax.specs.NameFaults.{known_types}
 use Rattle.xd_syntax.specs.Program.{ProgramTree}
 use Rattle.xd_syntax.specs.Tree.{uses_only}
 use Rattle.xd_syntax.specs.Types.{tree}
-use Rattle.xd_inclusion.specs.Inclusion.{IsInclusion}
+use Rattle.xd_inclusion.specs.Compared.{IsInclusion}
 use Rattle.xd_uses_types.specs.Comparison.{IsReadType}
 use Rattle.xd_uses_types.proofs.ComparisonLemmas.{compared, read_kept}
 use Rattle.xd_uses_types.proofs.types.compare_texts.Goals as goal

@@ -7,7 +7,7 @@ use Rattle.xd_command_steps.specs.Output.{Output}
 use Rattle.xd_syntax.specs.Kept.{program_tree}
 use Rattle.xd_syntax.specs.Program.{names_of}
 use Rattle.xd_syntax.specs.Types.{tree}
-use Rattle.xd_command_inclusions.specs.Subtype.{FitsAlone}
+use Rattle.xd_inclusion.specs.Inclusion.{FitsAlone}
 use Rattle.xd_command_inclusions.proofs.Differences.{properly_alone}
 use Rattle.xd_command_inclusions.proofs.command.minus.show_difference.Goals as goal
 

@@ -11,7 +11,7 @@ use Rattle.xd_syntax.specs.declared.fault.FaultKind.TheVariants.{NoSuchName}
 use Rattle.xd_sound.proofs.AdoptLaws.{type_kept}
 use Rattle.xd_command_steps.specs.Output.{Output, fault_lines}
 use Rattle.xd_command_inclusions.specs.Subtype.{undefined, EndsAtNames}
-use Rattle.xd_command_inclusions.specs.SubtypeByState.{AreNamed}
+use Rattle.xd_command_inclusions.specs.Named.{AreNamed}
 use Rattle.xd_command_documents.proofs.Steps.{no-memory}
 use Rattle.xd_command_inclusions.proofs.command.subtype.named_types.Goals as goal
 
