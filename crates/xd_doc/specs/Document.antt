@@ -22,6 +22,7 @@ size empty = 0
 size (text s r) = size r + 1
 size (element l c r) = size c + size r + 1
 
+-- it isn't empty
 abbrev pub has_item : Document → Bool
 has_item empty = false
 has_item (text s r) = true
@@ -42,6 +43,7 @@ escaped c =
     (cond (nat_eq c (byte "\t")) (codes "\\t")
     (c ∷ []))))
 
+-- each byte as it stands between quotes
 abbrev pub escaped_all : List ℕ → List ℕ
 escaped_all [] = []
 escaped_all (c ∷ cs) = escaped c ++ escaped_all cs
@@ -56,7 +58,8 @@ comma_before (element l c r) = codes ","
 abbrev pub items_text : Document → List ℕ
 items_text empty = []
 items_text (text s r) = (codes "\"" ++ escaped_all s ++ codes "\"") ++ (comma_before r ++ items_text r)
-items_text (element l c r) = (l ++ (codes "[" ++ items_text c) ++ codes "]") ++ (comma_before r ++ items_text r)
+items_text (element l c r) =
+    (l ++ (codes "[" ++ items_text c) ++ codes "]") ++ (comma_before r ++ items_text r)
 
 -- the canonical text, in bytes
 abbrev pub canonical_text : Document → List ℕ

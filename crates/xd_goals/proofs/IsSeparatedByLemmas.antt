@@ -13,7 +13,7 @@ use Rattle.xd_doc.proofs.Bools.{and_parts, or_cases}
 use Rattle.xd_doc.proofs.Lists.{all_push}
 use Rattle.xd_auto.specs.declared.auto.State.{State}
 use Rattle.xd_auto.specs.Automaton.{Automaton, accepts}
-use Rattle.xd_rules.specs.Members.{IsOneOf}
+use Rattle.xd_doc.specs.Members.{IsOneOf}
 use Rattle.xd_rules.proofs.Members.{any-one_of, one_of-any}
 use Rattle.xd_rules.specs.Rules.{Claim}
 use Rattle.xd_state_heads.specs.Moves.{claim_with, with_state}

@@ -12,7 +12,7 @@ use Rattle.xd_auto.specs.declared.auto.TextMove.{TextMove}
 use Rattle.xd_auto.specs.Automaton.{Automaton, IsState, IsClosed, moves_at}
 use Rattle.xd_auto.proofs.Closed.{moves_at-closed}
 use Rattle.xd_rules.specs.declared.atom.Atom.{Atom}
-use Rattle.xd_rules.specs.Members.{IsOneOf}
+use Rattle.xd_doc.specs.Members.{IsOneOf}
 use Rattle.xd_rules.specs.Heads.{Head, matches}
 use Rattle.xd_rules.specs.Meaning.{is_text_atom, AllLeaves, keyed}
 use Rattle.xd_rules.specs.Rules.{Claim, HeadAtom, ChoiceTree, settles_content, settles_rest, split_on, numbered}

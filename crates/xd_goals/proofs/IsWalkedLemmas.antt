@@ -14,7 +14,7 @@ use Rattle.xd_goals.specs.Reached.{is_marked, HasLeaf, IsLeafAt, IsLeafOf, IsWai
 use Rattle.xd_goals.specs.Kept.{with_mark}
 use Rattle.xd_goals.specs.Facts.{IsSettledRow, LeadsToSettled, StaySettled}
 use Rattle.xd_goals.specs.Standing.{IsOpen}
-use Rattle.xd_rules.specs.Members.{IsOneOf}
+use Rattle.xd_doc.specs.Members.{IsOneOf}
 use Rattle.xd_rules.proofs.Members.{get-one_of, one_of-all, one_of-any, one_of-append_cases, one_of-append_left, one_of-append_right, one_of-get, only_one}
 use Rattle.xd_goals.specs.declared.table.Choice.{Choice}
 use Rattle.xd_goals.specs.declared.table.ChoiceNode.{ChoiceNode}

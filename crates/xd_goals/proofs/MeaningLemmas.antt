@@ -8,7 +8,7 @@ use Rattle.xd_auto.specs.declared.auto.State.{State}
 use Rattle.xd_auto.specs.declared.auto.LabelMove.{LabelMove}
 use Rattle.xd_auto.specs.declared.auto.TextMove.{TextMove}
 use Rattle.xd_auto.specs.Automaton.{Automaton, accepts, moves_at}
-use Rattle.xd_rules.specs.Members.{IsOneOf}
+use Rattle.xd_doc.specs.Members.{IsOneOf}
 use Rattle.xd_rules.specs.Heads.{Head}
 use Rattle.xd_rules.specs.Meaning.{takes_label, takes_text, IsMeaning}
 use Rattle.xd_rules.proofs.Members.{one_of-append_left, one_of-append_right, one_of-append_cases, one_of-map, one_of-from_map, one_of-any, any-one_of}

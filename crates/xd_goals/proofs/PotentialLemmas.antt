@@ -6,7 +6,7 @@ use Rattle.std.proofs.lemmas.Bool.{cases_lt, cases_eq}
 use Rattle.std.proofs.lemmas.Option.{slice_get-get_or, slice_get_past, slice_get_within}
 use Rattle.xd_doc.specs.declared.store.Seq.{Seq}
 use Rattle.xd_auto.specs.declared.auto.State.{State}
-use Rattle.xd_rules.specs.Members.{IsOneOf}
+use Rattle.xd_doc.specs.Members.{IsOneOf}
 use Rattle.xd_rules.specs.Rules.{Claim}
 use Rattle.xd_rules.proofs.Members.{one_of-append_left, one_of-append_right, one_of-map, one_of-to_flat_map, get-one_of}
 use Rattle.xd_state_heads.specs.Moves.{AreBelow, IsInOrder, RiseFrom, claim_with}

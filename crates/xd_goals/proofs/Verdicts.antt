@@ -12,7 +12,7 @@ use Rattle.xd_auto.specs.declared.auto.State.{State}
 use Rattle.xd_auto.specs.Automaton.{Automaton}
 use Rattle.xd_rules.specs.declared.atom.Atom.{Atom}
 use Rattle.xd_rules.specs.declared.atom.Atom.TheVariants.{Label, OtherLabel, Text, OtherText}
-use Rattle.xd_rules.specs.Members.{IsOneOf}
+use Rattle.xd_doc.specs.Members.{IsOneOf}
 use Rattle.xd_rules.specs.Listed.{NoneOf, AreNames}
 use Rattle.xd_rules.specs.Heads.{Head, matches}
 use Rattle.xd_rules.specs.Meaning.{is_text_atom, takes_label, takes_text, keyed, AllLeaves, right_heads, Separates}

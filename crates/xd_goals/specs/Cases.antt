@@ -8,7 +8,7 @@ use Rattle.xd_auto.specs.declared.auto.State.{State}
 use Rattle.xd_auto.specs.Automaton.{Automaton}
 use Rattle.xd_rules.specs.declared.atom.Atom.{Atom}
 use Rattle.xd_rules.specs.declared.atom.Atom.TheVariants.{Label, OtherLabel, Text, OtherText}
-use Rattle.xd_rules.specs.Members.{IsOneOf}
+use Rattle.xd_doc.specs.Members.{IsOneOf}
 use Rattle.xd_rules.specs.Heads.{Head, matches}
 use Rattle.xd_rules.specs.Meaning.{is_text_atom, right_heads}
 use Rattle.xd_rules.specs.Rules.{HeadAtom, Claim, wanted}

@@ -4,7 +4,7 @@ use Rattle.std.specs.List.{AllByRecursion}
 use Rattle.xd_rules.specs.Rules.{ChoiceTree, settles_content, settles_rest, split_on}
 use Rattle.xd_rules.specs.Meaning.{AllLeaves}
 use Rattle.xd_goals.specs.Rows.{GoalRow, TableView, IsRefuted, row_at}
-use Rattle.xd_rules.specs.Members.{IsOneOf}
+use Rattle.xd_doc.specs.Members.{IsOneOf}
 use Rattle.xd_rules.specs.Listed.{SomeOf}
 use Rattle.xd_goals.specs.Kept.{IsSameButMarks}
 use Rattle.xd_goals.specs.Trees.{StandsAt}

@@ -6,7 +6,7 @@ use Rattle.xd_doc.specs.StoredSeq.{BelongsTo}
 use Rattle.xd_doc.specs.declared.store.Seq.{Seq}
 use Rattle.xd_auto.specs.declared.auto.State.{State}
 use Rattle.xd_auto.specs.Automaton.{Automaton, accepts}
-use Rattle.xd_rules.specs.Members.{IsOneOf}
+use Rattle.xd_doc.specs.Members.{IsOneOf}
 use Rattle.xd_rules.specs.Rules.{Claim, ChoiceTree, settles_content, settles_rest, split_on}
 use Rattle.xd_rules.specs.Meaning.{AllLeaves}
 use Rattle.std.specs.List.{AllByRecursion}

@@ -17,7 +17,7 @@ use Rattle.xd_meaning.specs.Consistent.{Goal, claim_of, claims, right_heads, Emp
 use Rattle.xd_meaning.specs.Breach.{Reason, bad_empty, bad_case, bad_split, bad_leaf, Lined, line_behind, empty_lines, goals_of, TreeBreach, content_leaf, rest_leaf, at_split, in_content, in_rest, TextBreach, text_leaf, text_content, text_split, ChoiceBreach, CasesBreach, too_many, too_few, other_case, in_tree, later_case, GoalBreach, on_empty, in_cases, GoalsBreach, this_goal, later_goal, IsFirstBreach}
 use Rattle.xd_syntax.proofs.Members.{mem_append, mem_map}
 use Rattle.xd_laws.specs.Laws.{BreachesAreFound, RulesAreTested, BreachIsOne}
-use Rattle.xd_rules.specs.Members.{IsOneOf}
+use Rattle.xd_doc.specs.Members.{IsOneOf}
 use Rattle.xd_laws.proofs.Claims.{goal_of, goal_claim}
 use Rattle.xd_laws.proofs.SameTrees.{same_tree-is, tree_same}
 use Rattle.xd_laws.proofs.FirstWrong.{same_tree, same_atom, head_matches, has_number, has_part, some_head, each_some_head, leaf_stands, split_allowed, reason_unless, or_next, wrong_choice, wrong_text, wrong_tree, wrong_case, Refusal, at_line, same_head_atom, wrong_cases, right_is_empty, empty_stands, wrong_goal, wrong_goals, first_wrong}

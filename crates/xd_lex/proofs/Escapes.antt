@@ -3,7 +3,7 @@ use Rattle.std.proofs.Common.{◌≡◌, sym, ℕ, ◌+◌, Bool, true, false, c
 use Rattle.std.specs.Prelude.{◌==◌}
 use Rattle.xd_doc.specs.Document.{escaped, escaped_all}
 use Rattle.xd_lex.specs.declared.LexFault.{LexFault}
-use Rattle.xd_lex.specs.Scan.{quoted, one_more}
+use Rattle.xd_lex.specs.Scan.{quoted_length, one_more}
 use Rattle.xd_lex.specs.Spelled.{characters, unescaped}
 use Rattle.std.proofs.lemmas.Bool.{eqb-true}
 
@@ -38,32 +38,32 @@ pub unescaped-escaped : (s : List ℕ) → unescaped (34 ∷ escaped_all s ++ 34
 unescaped-escaped s = characters-escaped_all s []
 
 -- one escaped character is a piece
-quoted-escaped_one : (c n : ℕ) (bs : List ℕ) → quoted false bs ≡ Ok n → quoted false (escaped c ++ bs) ≡ Ok (length (escaped c) + n)
+quoted-escaped_one : (c n : ℕ) (bs : List ℕ) → quoted_length false bs ≡ Ok n → quoted_length false (escaped c ++ bs) ≡ Ok (length (escaped c) + n)
 quoted-escaped_one c n bs h = at_quote (c == 34) refl
   where
-    two : one_more (one_more (quoted false bs)) ≡ Ok (2 + n)
+    two : one_more (one_more (quoted_length false bs)) ≡ Ok (2 + n)
     two = ap (λ (r : Result ℕ LexFault). one_more (one_more r)) h ∙ ap (λ (k : ℕ). Ok k) (let e : n + 1 + 1 ≡ 2 + n = omega arith in e)
 
-    at_tab : (t : Bool) → (c == 34) ≡ false → (c == 92) ≡ false → quoted false (cond t (92 ∷ 116 ∷ []) (c ∷ []) ++ bs) ≡ Ok (length (cond t (92 ∷ 116 ∷ []) (c ∷ [])) + n)
+    at_tab : (t : Bool) → (c == 34) ≡ false → (c == 92) ≡ false → quoted_length false (cond t (92 ∷ 116 ∷ []) (c ∷ []) ++ bs) ≡ Ok (length (cond t (92 ∷ 116 ∷ []) (c ∷ [])) + n)
     at_tab true q s = two
     at_tab false q s = rw (q, s) (ap (λ (r : Result ℕ LexFault). one_more r) h ∙ ap (λ (k : ℕ). Ok k) (let e : n + 1 ≡ 1 + n = omega arith in e))
 
-    at_line : (t : Bool) → (c == 34) ≡ false → (c == 92) ≡ false → quoted false (cond t (92 ∷ 110 ∷ []) (cond (c == 9) (92 ∷ 116 ∷ []) (c ∷ [])) ++ bs) ≡ Ok (length (cond t (92 ∷ 110 ∷ []) (cond (c == 9) (92 ∷ 116 ∷ []) (c ∷ []))) + n)
+    at_line : (t : Bool) → (c == 34) ≡ false → (c == 92) ≡ false → quoted_length false (cond t (92 ∷ 110 ∷ []) (cond (c == 9) (92 ∷ 116 ∷ []) (c ∷ [])) ++ bs) ≡ Ok (length (cond t (92 ∷ 110 ∷ []) (cond (c == 9) (92 ∷ 116 ∷ []) (c ∷ []))) + n)
     at_line true q s = two
     at_line false q s = at_tab (c == 9) q s
 
-    at_slash : (t : Bool) → (c == 92) ≡ t → (c == 34) ≡ false → quoted false (cond t (92 ∷ 92 ∷ []) (cond (c == 10) (92 ∷ 110 ∷ []) (cond (c == 9) (92 ∷ 116 ∷ []) (c ∷ []))) ++ bs) ≡ Ok (length (cond t (92 ∷ 92 ∷ []) (cond (c == 10) (92 ∷ 110 ∷ []) (cond (c == 9) (92 ∷ 116 ∷ []) (c ∷ [])))) + n)
+    at_slash : (t : Bool) → (c == 92) ≡ t → (c == 34) ≡ false → quoted_length false (cond t (92 ∷ 92 ∷ []) (cond (c == 10) (92 ∷ 110 ∷ []) (cond (c == 9) (92 ∷ 116 ∷ []) (c ∷ []))) ++ bs) ≡ Ok (length (cond t (92 ∷ 92 ∷ []) (cond (c == 10) (92 ∷ 110 ∷ []) (cond (c == 9) (92 ∷ 116 ∷ []) (c ∷ [])))) + n)
     at_slash true e q = two
     at_slash false e q = at_line (c == 10) q e
 
-    at_quote : (t : Bool) → (c == 34) ≡ t → quoted false (cond t (92 ∷ 34 ∷ []) (cond (c == 92) (92 ∷ 92 ∷ []) (cond (c == 10) (92 ∷ 110 ∷ []) (cond (c == 9) (92 ∷ 116 ∷ []) (c ∷ [])))) ++ bs) ≡ Ok (length (cond t (92 ∷ 34 ∷ []) (cond (c == 92) (92 ∷ 92 ∷ []) (cond (c == 10) (92 ∷ 110 ∷ []) (cond (c == 9) (92 ∷ 116 ∷ []) (c ∷ []))))) + n)
+    at_quote : (t : Bool) → (c == 34) ≡ t → quoted_length false (cond t (92 ∷ 34 ∷ []) (cond (c == 92) (92 ∷ 92 ∷ []) (cond (c == 10) (92 ∷ 110 ∷ []) (cond (c == 9) (92 ∷ 116 ∷ []) (c ∷ [])))) ++ bs) ≡ Ok (length (cond t (92 ∷ 34 ∷ []) (cond (c == 92) (92 ∷ 92 ∷ []) (cond (c == 10) (92 ∷ 110 ∷ []) (cond (c == 9) (92 ∷ 116 ∷ []) (c ∷ []))))) + n)
     at_quote true e = two
     at_quote false e = at_slash (c == 92) refl e
 
 -- the quoted text ends at the quote that is put after
-pub quoted-escaped : (s rest : List ℕ) → quoted false (escaped_all s ++ 34 ∷ rest) ≡ Ok (length (escaped_all s) + 1)
+pub quoted-escaped : (s rest : List ℕ) → quoted_length false (escaped_all s ++ 34 ∷ rest) ≡ Ok (length (escaped_all s) + 1)
 quoted-escaped [] rest = refl
 quoted-escaped (c ∷ cs) rest =
-    ap (λ (bs : List ℕ). quoted false bs) (append_assoc (escaped c) (escaped_all cs) (34 ∷ rest))
+    ap (λ (bs : List ℕ). quoted_length false bs) (append_assoc (escaped c) (escaped_all cs) (34 ∷ rest))
     ∙ quoted-escaped_one c (length (escaped_all cs) + 1) (escaped_all cs ++ 34 ∷ rest) (quoted-escaped cs rest)
     ∙ ap (λ (k : ℕ). Ok k) (let e : length (escaped c) + (length (escaped_all cs) + 1) ≡ length (escaped c ++ escaped_all cs) + 1 = omega (arith, length-append (escaped c) (escaped_all cs)) in e)

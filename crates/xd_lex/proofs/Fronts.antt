@@ -17,7 +17,7 @@ use Rattle.xd_lex.specs.declared.Front.{Front}
 use Rattle.xd_lex.specs.declared.Front.TheVariants as fronts
 use Rattle.xd_lex.specs.LexedTokens.{is_last}
 use Rattle.xd_lex.specs.Spellings.{IsSpelling, are_pieces}
-use Rattle.xd_lex.specs.Scan.{quoted, commented, is_escape, is_blank, symbol, one_more, option_more, of_text, of_comment, of_symbol, front_of}
+use Rattle.xd_lex.specs.Scan.{quoted_length, commented, is_escape, is_blank, symbol, one_more, option_more, of_text, of_comment, of_symbol, front_of}
 use Rattle.std.proofs.lemmas.Bool.{and_parts, and_from, not_from_false, eqb-true, cond_both}
 
 -- n bytes stand at the front, and the last of them is ASCII
@@ -59,11 +59,11 @@ eq_41 : (s : Bool) (b : ℕ) → (s && (b == 41)) ≡ true → b < 128
 eq_41 true b h = grind (arith, nat_tests)
 eq_41 false b h = cc
 
-quoted_reaches : (escaped : Bool) (bs : List ℕ) → IfReaches (quoted escaped bs) bs
+quoted_reaches : (escaped : Bool) (bs : List ℕ) → IfReaches (quoted_length escaped bs) bs
 quoted_reaches true [] = tt
 quoted_reaches false [] = tt
-quoted_reaches true (b ∷ bs) = cond_both (is_escape b) (one_more (quoted false bs)) (Err BadCharacter) (λ r. IfReaches r (b ∷ bs)) (λ _. one_more_reaches b bs (quoted false bs) (quoted_reaches false bs)) (λ _. tt)
-quoted_reaches false (b ∷ bs) = cond_both (b == 34) (Ok 1) (one_more (quoted (b == 92) bs)) (λ r. IfReaches r (b ∷ bs)) (λ e. one b bs (eq_34 b e)) (λ _. one_more_reaches b bs (quoted (b == 92) bs) (quoted_reaches (b == 92) bs))
+quoted_reaches true (b ∷ bs) = cond_both (is_escape b) (one_more (quoted_length false bs)) (Err BadCharacter) (λ r. IfReaches r (b ∷ bs)) (λ _. one_more_reaches b bs (quoted_length false bs) (quoted_reaches false bs)) (λ _. tt)
+quoted_reaches false (b ∷ bs) = cond_both (b == 34) (Ok 1) (one_more (quoted_length (b == 92) bs)) (λ r. IfReaches r (b ∷ bs)) (λ e. one b bs (eq_34 b e)) (λ _. one_more_reaches b bs (quoted_length (b == 92) bs) (quoted_reaches (b == 92) bs))
 
 commented_reaches : (starred : Bool) (bs : List ℕ) → IfReachesOption (commented starred bs) bs
 commented_reaches starred [] = tt
@@ -96,14 +96,14 @@ pieces_more : (b : ℕ) (bs : List ℕ) (r : Result ℕ LexFault) (e f : Bool) �
 pieces_more b bs (Ok n) e f g h = (b ∷ h.0, g h.0 h.1, take_more b bs n ∙ ap (λ (xs : List ℕ). b ∷ xs) h.2)
 pieces_more b bs (Err x) e f g h = tt
 
-pub quoted_pieces : (escaped : Bool) (bs : List ℕ) → IfPieces (quoted escaped bs) escaped bs
+pub quoted_pieces : (escaped : Bool) (bs : List ℕ) → IfPieces (quoted_length escaped bs) escaped bs
 quoted_pieces true [] = tt
 quoted_pieces false [] = tt
-quoted_pieces true (b ∷ bs) = cond_both (is_escape b) (one_more (quoted false bs)) (Err BadCharacter) (λ r. IfPieces r true (b ∷ bs)) (λ e. pieces_more b bs (quoted false bs) false true (λ pieces h. and_from (is_escape b) (are_pieces false pieces) e h) (quoted_pieces false bs)) (λ _. tt)
+quoted_pieces true (b ∷ bs) = cond_both (is_escape b) (one_more (quoted_length false bs)) (Err BadCharacter) (λ r. IfPieces r true (b ∷ bs)) (λ e. pieces_more b bs (quoted_length false bs) false true (λ pieces h. and_from (is_escape b) (are_pieces false pieces) e h) (quoted_pieces false bs)) (λ _. tt)
 quoted_pieces false (b ∷ bs) =
-    cond_both (b == 34) (Ok 1) (one_more (quoted (b == 92) bs)) (λ r. IfPieces r false (b ∷ bs))
+    cond_both (b == 34) (Ok 1) (one_more (quoted_length (b == 92) bs)) (λ r. IfPieces r false (b ∷ bs))
     (λ e. ([], refl, ap (λ (c : ℕ). c ∷ []) (eqb-true b 34 e)))
-    (λ e. pieces_more b bs (quoted (b == 92) bs) (b == 92) false (λ pieces h. and_from (not (b == 34)) (are_pieces (b == 92) pieces) (not_from_false (b == 34) e) h) (quoted_pieces (b == 92) bs))
+    (λ e. pieces_more b bs (quoted_length (b == 92) bs) (b == 92) false (λ pieces h. and_from (not (b == 34)) (are_pieces (b == 92) pieces) (not_from_false (b == 34) e) h) (quoted_pieces (b == 92) bs))
 
 text_fits : (b : ℕ) (bs : List ℕ) (r : Result ℕ LexFault) → b ≡ 34 → IfReaches r bs → IfPieces r false bs → Fits (of_text r) (b ∷ bs)
 text_fits b bs (Ok n) e h q = (further b bs n h, refl, (q.0, q.1, take_more b bs n ∙ ap (λ (xs : List ℕ). b ∷ xs) q.2 ∙ ap (λ (c : ℕ). c ∷ (q.0 ++ 34 ∷ [])) e))
@@ -199,7 +199,7 @@ fits b bs =
     choose_fits _ _ _ _ (λ e. one b bs (blank_ascii b e)) (λ _.
     choose_fits _ _ _ _ (λ e. comment_fits b bs (commented false (drop 1 bs)) (nonempty bs (and_parts (b == 40) (slice_index bs 0 == 42) e).1) (commented_reaches false (drop 1 bs))) (λ _.
     choose_fits _ _ _ _ (λ e. let n = length (take_while is_word_part bs) + 1 in choose_fits (b ∷ bs) (slice_index (b ∷ bs) n == 91) (fronts.Token kinds.Label (n + 1)) (fronts.Token kinds.Word n) (λ h. (bracket_at (b ∷ bs) n h, refl, (take n (b ∷ bs), word_of b bs e, with_bracket (b ∷ bs) n h))) (λ _. (word_reaches b bs (begins_ascii b e), refl, word_of b bs e))) (λ _.
-    choose_fits (b ∷ bs) (b == 34) (of_text (quoted false bs)) (last_front b bs) (λ e. text_fits b bs (quoted false bs) (eqb-true b 34 e) (quoted_reaches false bs) (quoted_pieces false bs)) (λ _.
+    choose_fits (b ∷ bs) (b == 34) (of_text (quoted_length false bs)) (last_front b bs) (λ e. text_fits b bs (quoted_length false bs) (eqb-true b 34 e) (quoted_reaches false bs) (quoted_pieces false bs)) (λ _.
     choose_fits (b ∷ bs) ((b == 45) && (slice_index bs 0 == 62)) (fronts.Token kinds.Arrow 2) (of_symbol (symbol b)) (λ e. (arrow b bs (and_parts (b == 45) (slice_index bs 0 == 62) e).1, refl, arrow_spelled b bs e)) (λ _.
     symbol_fits b bs (symbol b) (symbol_ascii b))))))
 

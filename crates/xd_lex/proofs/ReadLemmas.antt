@@ -13,7 +13,7 @@ use Rattle.xd_lex.specs.declared.LexFault.{LexFault}
 use Rattle.xd_lex.specs.declared.LexFault.TheVariants.{BadCharacter, OpenText, OpenComment}
 use Rattle.xd_lex.specs.declared.Front.{Front}
 use Rattle.xd_lex.specs.declared.Front.TheVariants as fronts
-use Rattle.xd_lex.specs.Scan.{is_blank, quoted, commented, option_more, one_more, is_escape, symbol, of_text, of_comment, of_word, of_symbol, front_of}
+use Rattle.xd_lex.specs.Scan.{is_blank, quoted_length, commented, option_more, one_more, is_escape, symbol, of_text, of_comment, of_word, of_symbol, front_of}
 use Rattle.xd_lex.specs.Tokens.{Lexeme, start, past, tokens_from}
 use Rattle.xd_lex.specs.LexedTokens.{is_last}
 use Rattle.xd_lex.specs.Reading.{HasNoEnd, IsComment, IsGap, blank, comment, EndsBefore, Reads, end, gap, token, broken, IsFault, BeginsNothing, TokensAreRead, HasOneLast, OneLast}
@@ -117,11 +117,11 @@ open_slash = (34 ∷ [], refl)
 open_plain : IfBad false (Err OpenText) []
 open_plain = ([], refl)
 
-quoted_bad : (escaped : Bool) (bs : List ℕ) → IfBad escaped (quoted escaped bs) bs
+quoted_bad : (escaped : Bool) (bs : List ℕ) → IfBad escaped (quoted_length escaped bs) bs
 quoted_bad true [] = open_slash
 quoted_bad false [] = open_plain
-quoted_bad true (b ∷ bs) = cond_both (is_escape b) (one_more (quoted false bs)) (Err BadCharacter) (λ r. IfBad true r (b ∷ bs)) (λ e. bad_behind_escape b bs (quoted false bs) e (quoted_bad false bs)) (λ e. inl (b, bs, e, refl))
-quoted_bad false (b ∷ bs) = cond_both (b == 34) (Ok 1) (one_more (quoted (b == 92) bs)) (λ r. IfBad false r (b ∷ bs)) (λ e. tt) (λ e. bad_behind b bs (quoted (b == 92) bs) e (quoted_bad (b == 92) bs))
+quoted_bad true (b ∷ bs) = cond_both (is_escape b) (one_more (quoted_length false bs)) (Err BadCharacter) (λ r. IfBad true r (b ∷ bs)) (λ e. bad_behind_escape b bs (quoted_length false bs) e (quoted_bad false bs)) (λ e. inl (b, bs, e, refl))
+quoted_bad false (b ∷ bs) = cond_both (b == 34) (Ok 1) (one_more (quoted_length (b == 92) bs)) (λ r. IfBad false r (b ∷ bs)) (λ e. tt) (λ e. bad_behind b bs (quoted_length (b == 92) bs) e (quoted_bad (b == 92) bs))
 
 text_stands : (b : ℕ) (bs : List ℕ) (r : Result ℕ LexFault) → b ≡ 34 → IfBad false r bs → Stands (of_text r) (b ∷ bs)
 text_stands b bs (Ok n) e h = tt
@@ -267,7 +267,7 @@ stands b bs =
     choose_stands (b ∷ bs) (is_blank b) (fronts.Gap 1) _ (λ e. blank {b = b} e) (λ blank_no.
     choose_stands (b ∷ bs) ((b == 40) && (slice_index bs 0 == 42)) (of_comment (commented false (drop 1 bs))) _ (comment_front b bs) (λ none.
     choose_stands (b ∷ bs) (is_word_start b) (of_word (b ∷ bs) (length (take_while is_word_part bs) + 1)) _ (λ _. word_stands b bs) (λ word_no.
-    choose_stands (b ∷ bs) (b == 34) (of_text (quoted false bs)) (last_front_of b bs) (λ e. text_stands b bs (quoted false bs) (eqb-true b 34 e) (quoted_bad false bs)) (λ quote_no.
+    choose_stands (b ∷ bs) (b == 34) (of_text (quoted_length false bs)) (last_front_of b bs) (λ e. text_stands b bs (quoted_length false bs) (eqb-true b 34 e) (quoted_bad false bs)) (λ quote_no.
     choose_stands (b ∷ bs) ((b == 45) && (slice_index bs 0 == 62)) (fronts.Token kinds.Arrow 2) (of_symbol (symbol b)) (λ _. tt) (λ arrow_no.
     symbol_stands b bs (symbol b) (symbol_ends b bs none) (λ e. strange_stands b bs (record { blank_no = blank_no; word_no = word_no; quote_no = quote_no; arrow_no = arrow_no; symbol_no = e })))))))
 

@@ -12,7 +12,8 @@ escape_meaning b = if b == byte "n" then byte "\n" else (if b == byte "t" then b
 abbrev pub characters : Bool → List ℕ → List ℕ
 characters escaped [] = []
 characters true (b ∷ bs) = escape_meaning b ∷ characters false bs
-characters false (b ∷ bs) = if b == byte "\"" then [] else (if b == byte "\\" then characters true bs else b ∷ characters false bs)
+characters false (b ∷ bs) =
+    if b == byte "\"" then [] else (if b == byte "\\" then characters true bs else b ∷ characters false bs)
 
 -- the text that a quoted text stands for
 abbrev pub unescaped : List ℕ → List ℕ

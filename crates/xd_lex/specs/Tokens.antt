@@ -37,10 +37,12 @@ tokens_from n p [] = record { kind = kinds.End; text = []; place = p } ∷ []
 tokens_from (suc n) p (b ∷ bs) = tokens_from n (after p b) bs
 tokens_from zero p (b ∷ bs) = elim (front_of b bs) [
   | fronts.Gap n ↦ tokens_from (n - 1) (after p b) bs
-  | fronts.Token kind n ↦ record { kind = kind; text = take n (b ∷ bs); place = p } ∷ tokens_from (n - 1) (after p b) bs
+  | fronts.Token kind n ↦
+      record { kind = kind; text = take n (b ∷ bs); place = p } ∷ tokens_from (n - 1) (after p b) bs
   | fronts.Fault f ↦ record { kind = kinds.Broken f; text = []; place = p } ∷ []
 ]
 
+-- the tokens of a text
 abbrev pub tokens_of : List ℕ → List Lexeme
 tokens_of bytes = tokens_from 0 start bytes
 

@@ -3,7 +3,7 @@
 ghost use Rattle.std.specs.Prelude.{◌≡◌, ℕ, ◌<◌, ◌≤◌, ◌+◌, ◌∷◌, List, length, slice_index, false, drop, IfOk, IfSome};
 ghost use Rattle.std.specs.List.{take_while};
 ghost use Rattle.xd_doc.specs.Word.{is_word_start, is_word_part};
-ghost use Rattle.xd_lex.specs.Scan.{of_text, of_comment, of_word, of_symbol, is_blank, is_escape, quoted, commented, symbol, front_of};
+ghost use Rattle.xd_lex.specs.Scan.{of_text, of_comment, of_word, of_symbol, is_blank, is_escape, quoted_length, commented, symbol, front_of};
 
 use crate::{Front, Kind, LexFault};
 
@@ -40,7 +40,7 @@ fn word_len(bytes: &[u8]) -> usize
 
 /// After the opening quote: the bytes of the pieces and of the closing quote.
 fn text_len(bytes: &[u8]) -> Result<usize, LexFault>
-    ensures is { result ≡ quoted false bytes.now }
+    ensures is { result ≡ quoted_length false bytes.now }
     ensures within { IfOk result (λ n. n ≤ length bytes.now) }
 {
     let mut at = 0;
@@ -102,7 +102,7 @@ fn symbol(b: u8) -> Option<Kind>
 }
 
 fn front_of_text(bytes: &[u8]) -> Front
-    ensures { result ≡ of_text (quoted false bytes.now) }
+    ensures { result ≡ of_text (quoted_length false bytes.now) }
 {
     match text_len(bytes) {
         Ok(n) => Front::Token(Kind::Text, n + 1),

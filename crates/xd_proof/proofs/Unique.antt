@@ -17,7 +17,7 @@ use Rattle.xd_rules.specs.declared.atom.Atom.TheVariants.{Label, OtherLabel, Tex
 use Rattle.xd_rules.specs.Rules.{ChoiceTree, settles_content, settles_rest, split_on, Case}
 use Rattle.xd_doc.specs.Document.{escaped_all}
 use Rattle.xd_lex.specs.declared.LexFault.{LexFault}
-use Rattle.xd_lex.specs.Scan.{quoted as scanned}
+use Rattle.xd_lex.specs.Scan.{quoted_length as scanned}
 use Rattle.xd_lex.specs.Spelled.{unescaped}
 use Rattle.xd_lex.proofs.Escapes.{quoted-escaped, unescaped-escaped}
 use Rattle.xd_syntax.specs.TypeText.{quoted}

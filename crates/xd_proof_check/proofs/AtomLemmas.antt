@@ -3,7 +3,8 @@ use Rattle.std.proofs.Common.{◌≡◌, ℕ, Bool, true, false, ◌||◌, nat_e
 use Rattle.std.specs.Cmp.Lexicographic.{pointwise}
 use Rattle.std.proofs.lemmas.Bool.{or_right}
 use Rattle.xd_doc.specs.Classes.{is_named}
-use Rattle.xd_rules.specs.Heads.{HeadKind, in_byte_order}
+use Rattle.xd_doc.specs.ByteOrder.{in_byte_order}
+use Rattle.xd_rules.specs.Heads.{HeadKind}
 use Rattle.xd_rules.specs.Listed.{AreAmong}
 use Rattle.xd_rules.proofs.NamesInOrder.{order_named}
 

@@ -12,7 +12,8 @@ use Rattle.std.proofs.lemmas.Grind.{flat_map-append}
 use Rattle.xd_doc.specs.Classes.{is_named}
 use Rattle.xd_doc.proofs.Bools.{or_join}
 use Rattle.xd_doc.proofs.Lists.{map_append}
-use Rattle.xd_rules.specs.Heads.{HeadKind, in_byte_order}
+use Rattle.xd_doc.specs.ByteOrder.{in_byte_order}
+use Rattle.xd_rules.specs.Heads.{HeadKind}
 use Rattle.xd_heads.specs.HeadList.{kind_at}
 use Rattle.xd_heads.specs.declared.lister.NumberedHead.{NumberedHead}
 use Rattle.xd_proof_check.specs.Atoms.{kinds_of}

@@ -1,6 +1,7 @@
 -- What heads name.
 use Rattle.std.specs.Prelude.{◌≡◌, List, map, flat_map}
-use Rattle.xd_rules.specs.Heads.{HeadKind, in_byte_order, labels_of, texts_of}
+use Rattle.xd_doc.specs.ByteOrder.{in_byte_order}
+use Rattle.xd_rules.specs.Heads.{HeadKind, labels_of, texts_of}
 use Rattle.xd_heads.specs.HeadList.{kind_at}
 use Rattle.xd_heads.specs.declared.lister.NumberedHead.{NumberedHead}
 use Rattle.xd_rules.specs.Listed.{AreAmong}

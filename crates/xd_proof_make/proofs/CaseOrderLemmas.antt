@@ -10,7 +10,7 @@ use Rattle.xd_auto.specs.declared.auto.TextMove.{TextMove}
 use Rattle.xd_rules.specs.Heads.{Head, atoms_of, HeadKind, Named, element_in, text_in}
 use Rattle.xd_rules.specs.declared.atom.Atom.{Atom}
 use Rattle.xd_rules.specs.Rules.{Case, HeadAtom, atoms_from, head_atom, numbered}
-use Rattle.xd_rules.specs.Members.{IsOneOf}
+use Rattle.xd_doc.specs.Members.{IsOneOf}
 use Rattle.xd_rules.specs.Listed.{SomeOf}
 use Rattle.xd_rules.proofs.Members.{one_of-append_left, one_of-append_right}
 use Rattle.xd_state_heads.specs.Moves.{label_head, text_head}

@@ -16,7 +16,7 @@ use Rattle.xd_rules.specs.Heads.{Head, Named, named_in}
 use Rattle.xd_meaning.specs.Heads.{heads}
 use Rattle.xd_meaning.specs.Consistent.{Goal, EmptyRule}
 use Rattle.xd_rules.specs.Rules.{numbered, atoms_from, ChoiceTree, Claim, LabelTree, LeafRule, Sides, TextTree, TreeRule, matching, no_sides, on_content, on_rest, settles_content, settles_rest, split_on}
-use Rattle.xd_rules.specs.Members.{IsOneOf}
+use Rattle.xd_doc.specs.Members.{IsOneOf}
 use Rattle.xd_rules.proofs.Members.{one_of-append_left, one_of-append_right}
 use Rattle.xd_state_heads.specs.Moves.{heads_of, is_last_in, label_head, text_head}
 use Rattle.xd_goals.specs.Rows.{GoalRow, TableView, row_at, claim_of, claim_at, choice_key}

@@ -5,7 +5,7 @@ use Rattle.std.proofs.lemmas.List.{take_more, map-append}
 use Rattle.xd_doc.proofs.Lists.{all_append}
 use Rattle.xd_rules.specs.Rules.{ChoiceTree, settles_content, settles_rest, split_on, Case}
 use Rattle.xd_rules.specs.Meaning.{AllLeaves}
-use Rattle.xd_rules.specs.Members.{IsOneOf}
+use Rattle.xd_doc.specs.Members.{IsOneOf}
 use Rattle.xd_rules.proofs.Members.{one_of-append_left, one_of-append_right, one_of-all}
 use Rattle.xd_goals.specs.Trees.{StandsAt}
 use Rattle.xd_goals.specs.declared.table.Choice.{Choice}

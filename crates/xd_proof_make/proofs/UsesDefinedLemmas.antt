@@ -13,7 +13,7 @@ use Rattle.xd_auto.specs.declared.auto.TextMove.{TextMove}
 use Rattle.xd_auto.specs.Automaton.{Automaton, moves_at}
 use Rattle.xd_rules.specs.Heads.{Head}
 use Rattle.xd_meaning.specs.Heads.{heads}
-use Rattle.xd_rules.specs.Members.{IsOneOf}
+use Rattle.xd_doc.specs.Members.{IsOneOf}
 use Rattle.xd_rules.proofs.Members.{one_of-all, one_of-numbered}
 use Rattle.xd_rules.specs.declared.atom.Atom.{Atom}
 use Rattle.xd_state_heads.specs.Moves.{heads_of, label_head, text_head}

@@ -12,7 +12,7 @@ use Rattle.xd_rules.specs.Rules.{ChoiceTree, Case, numbered, matching, Sides, no
 use Rattle.xd_meaning.specs.Consistent.{Goal, claim_of as goal_claim_of, claims, right_heads, KeepsRules}
 use Rattle.xd_laws.proofs.Claims.{goal_claim}
 use Rattle.xd_rules.proofs.Walk.{matching_at, matching_there}
-use Rattle.xd_rules.specs.Members.{IsOneOf}
+use Rattle.xd_doc.specs.Members.{IsOneOf}
 use Rattle.xd_rules.specs.Listed.{SomeOf}
 use Rattle.xd_rules.proofs.Members.{one_of-map, one_of-from_map, one_of-all}
 use Rattle.xd_rules.specs.declared.atom.Atom.TheVariants.{Label, OtherLabel, Text, OtherText}

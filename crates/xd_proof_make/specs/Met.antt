@@ -3,7 +3,7 @@ use Rattle.std.specs.Prelude.{◌≡◌, ℕ, zero, suc, ◌+◌, Bool, true, Li
 use Rattle.std.specs.List.{AllByRecursion}
 use Rattle.xd_rules.specs.Rules.{ChoiceTree}
 use Rattle.xd_rules.specs.Meaning.{AllLeaves}
-use Rattle.xd_rules.specs.Members.{IsOneOf}
+use Rattle.xd_doc.specs.Members.{IsOneOf}
 use Rattle.xd_goals.specs.Rows.{TableView, row_at}
 use Rattle.xd_goals.specs.Trees.{StandsAt}
 use Rattle.xd_goals.specs.declared.table.Choice.{Choice}

@@ -10,7 +10,7 @@ use Rattle.xd_doc.specs.Document.{Document, empty, text, element, is_proper, esc
 use Rattle.xd_lex.specs.Tokens.{start, tokens_from, tokens_of, past}
 use Rattle.xd_lex.proofs.Escapes.{unescaped-escaped}
 use Rattle.xd_lex.proofs.Canonical.{tokens-quoted, tokens-label, tokens-comma, tokens-bracket_r, tokens-parens}
-use Rattle.xd_read.specs.Grammar.{Terminal, Text, Label, BracketR, Comma, Context, Content, Behind, Items, Spells}
+use Rattle.xd_read.specs.Grammar.{Terminal, QuotedText, Label, BracketR, Comma, Context, Content, Behind, Items, Spells}
 use Rattle.xd_read.specs.Reading.{terminals_of, word_of, BytesSpell}
 use Rattle.xd_read.proofs.CanonicalLemmas.{canonical_text_utf8}
 use Rattle.std.proofs.lemmas.Bool.{and_parts}
@@ -24,8 +24,8 @@ word_of-label l =
     let n : length (l ++ 91 ∷ []) - 1 ≡ length l = omega (arith, length-append l (91 ∷ [])) in
     rw n (take-append_seam l (91 ∷ []))
 
-quoted_at : (p : Place) (s rest : List ℕ) → terminals_at p ((34 ∷ escaped_all s ++ 34 ∷ []) ++ rest) ≡ Text s ∷ terminals_at (past p (34 ∷ escaped_all s ++ 34 ∷ [])) rest
-quoted_at p s rest = ap terminals_of (tokens-quoted p s rest) ∙ ap (λ (x : List ℕ). Text x ∷ terminals_at (past p (34 ∷ escaped_all s ++ 34 ∷ [])) rest) (unescaped-escaped s)
+quoted_at : (p : Place) (s rest : List ℕ) → terminals_at p ((34 ∷ escaped_all s ++ 34 ∷ []) ++ rest) ≡ QuotedText s ∷ terminals_at (past p (34 ∷ escaped_all s ++ 34 ∷ [])) rest
+quoted_at p s rest = ap terminals_of (tokens-quoted p s rest) ∙ ap (λ (x : List ℕ). QuotedText x ∷ terminals_at (past p (34 ∷ escaped_all s ++ 34 ∷ [])) rest) (unescaped-escaped s)
 
 label_at : (p : Place) (l rest : List ℕ) → is_word l ≡ true → terminals_at p ((l ++ 91 ∷ []) ++ rest) ≡ Label l ∷ terminals_at (past p (l ++ 91 ∷ [])) rest
 label_at p l rest h = ap terminals_of (tokens-label p l rest h) ∙ ap (λ (x : List ℕ). Label x ∷ terminals_at (past p (l ++ 91 ∷ [])) rest) (word_of-label l)

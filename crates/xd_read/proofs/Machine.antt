@@ -3,7 +3,7 @@
 use Rattle.std.proofs.Common.{◌≡◌, ℕ, List, [], ◌∷◌, ◌++◌, Option, Some, None, refl, sym, ap, subst, ◌∙◌, inl, inr}
 use Rattle.std.proofs.lemmas.List.{append-nil}
 use Rattle.xd_doc.specs.Document.{Document, empty, text, element, join}
-use Rattle.xd_read.specs.Grammar.{Terminal, Text, Label, ParenL, ParenR, BracketR, Comma, End, Other, Context, Whole, Content, Behind, Lead, Items, Spells}
+use Rattle.xd_read.specs.Grammar.{Terminal, QuotedText, Label, ParenL, ParenR, BracketR, Comma, End, Other, Context, Whole, Content, Behind, Lead, Items, Spells}
 use Rattle.xd_read.specs.Completes.{Frame, Rest, Up, Completes}
 use Rattle.xd_read.specs.declared.moves.Expect.{Expect}
 use Rattle.xd_read.specs.declared.moves.Expect.TheVariants as expects
@@ -26,7 +26,7 @@ close fs inner t = None
 
 -- an item, or other
 abbrev pub item : Document → List Frame → Terminal → Option State → Option State
-item front fs (Text s) other = Some (At expects.More (join front (text s empty)) fs)
+item front fs (QuotedText s) other = Some (At expects.More (join front (text s empty)) fs)
 item front fs (Label l) other = Some (At expects.Content empty (record { label = l; before = front } ∷ fs))
 item front fs t other = other
 
@@ -75,7 +75,7 @@ pushed_elem : (front : Document) (l : List ℕ) (c r : Document) → join front 
 pushed_elem front l c r = sym (join_assoc front (element l c empty) r)
 
 -- a text is left
-text_forward : (front : Document) (fs : List Frame) (t : Terminal) (ts : List Terminal) (d : Document) (other : Option State) (s : List ℕ) (r : Document) (us vs : List Terminal) → t ∷ ts ≡ Text s ∷ vs → Items Behind r vs us → Up fs (join front (text s r)) us d → Goes (item front fs t other) ts d
+text_forward : (front : Document) (fs : List Frame) (t : Terminal) (ts : List Terminal) (d : Document) (other : Option State) (s : List ℕ) (r : Document) (us vs : List Terminal) → t ∷ ts ≡ QuotedText s ∷ vs → Items Behind r vs us → Up fs (join front (text s r)) us d → Goes (item front fs t other) ts d
 text_forward front fs t ts d other s r us vs e rest up =
     rw (same_first _ _ _ _ e) (r, us, rw (same_rest _ _ _ _ e) rest, subst (λ (x : Document). Up fs x us d) (pushed_text front s r) up)
 
@@ -121,7 +121,7 @@ forward (At expects.Closed front fs) t ts d (element l c r, us, rest, up) = absu
 forward (Done e) t ts d (nothing, is) = absurd (cc nothing)
 
 -- and what completes after it completes with it
-text_backward : (m : Context) (front : Document) (fs : List Frame) (s : List ℕ) (ts : List Terminal) (d : Document) → Lead m (Text s ∷ ts) (Text s ∷ ts) → CompletesFrom (At expects.More (join front (text s empty)) fs) ts d → (r : Document) × (us : List Terminal) × Items m r (Text s ∷ ts) us × Up fs (join front r) us d
+text_backward : (m : Context) (front : Document) (fs : List Frame) (s : List ℕ) (ts : List Terminal) (d : Document) → Lead m (QuotedText s ∷ ts) (QuotedText s ∷ ts) → CompletesFrom (At expects.More (join front (text s empty)) fs) ts d → (r : Document) × (us : List Terminal) × Items m r (QuotedText s ∷ ts) us × Up fs (join front r) us d
 text_backward m front fs s ts d lead (r, us, rest, up) = (text s r, us, (ts, lead, rest), subst (λ (x : Document). Up fs x us d) (sym (pushed_text front s r)) up)
 
 elem_backward : (m : Context) (front : Document) (fs : List Frame) (l : List ℕ) (ts : List Terminal) (d : Document) → Lead m (Label l ∷ ts) (Label l ∷ ts) → CompletesFrom (At expects.Content empty (record { label = l; before = front } ∷ fs)) ts d → (r : Document) × (us : List Terminal) × Items m r (Label l ∷ ts) us × Up fs (join front r) us d
@@ -132,10 +132,10 @@ close_to : (front : Document) (fs : List Frame) (us : List Terminal) (d : Docume
 close_to front fs us d up = subst (λ (x : Document). Up fs x us d) (sym (join_empty-right front)) up
 
 pub backward : (s : State) (t : Terminal) (ts : List Terminal) (d : Document) → Goes (step s t) ts d → CompletesFrom s (t ∷ ts) d
-backward (At expects.Document front fs) (Text s) ts d g = text_backward Whole front fs s ts d refl g
+backward (At expects.Document front fs) (QuotedText s) ts d g = text_backward Whole front fs s ts d refl g
 backward (At expects.Document front fs) (Label l) ts d g = elem_backward Whole front fs l ts d refl g
 backward (At expects.Document front fs) ParenL ts d (empty, us, e, up) = (empty, us, ap (λ (x : List Terminal). ParenL ∷ x) e, up)
-backward (At expects.Content front fs) (Text s) ts d g = text_backward Content front fs s ts d refl g
+backward (At expects.Content front fs) (QuotedText s) ts d g = text_backward Content front fs s ts d refl g
 backward (At expects.Content front fs) (Label l) ts d g = elem_backward Content front fs l ts d refl g
 backward (At expects.Content front fs) ParenL ts d (empty, us, e, up) = (empty, us, inr (ap (λ (x : List Terminal). ParenL ∷ x) e), up)
 backward (At expects.Content front fs) BracketR ts d g = (empty, BracketR ∷ ts, inl refl, close_to front fs _ d (close_backward fs front BracketR ts d g))
@@ -144,7 +144,7 @@ backward (At expects.More front fs) Comma ts d (text s r, us, (vs, e, rest), up)
 backward (At expects.More front fs) Comma ts d (element l c r, us, (vs, ws, e, inner, rest), up) = (element l c r, us, (vs, ws, ap (λ (x : List Terminal). Comma ∷ x) e, inner, rest), up)
 backward (At expects.More front fs) BracketR ts d g = (empty, BracketR ∷ ts, refl, close_to front fs _ d (close_backward fs front BracketR ts d g))
 backward (At expects.More front fs) End ts d g = (empty, End ∷ ts, refl, close_to front fs _ d (close_backward fs front End ts d g))
-backward (At expects.Item front fs) (Text s) ts d (r, us, rest, up) = (text s r, us, (ts, refl, rest), subst (λ (x : Document). Up fs x us d) (sym (pushed_text front s r)) up)
+backward (At expects.Item front fs) (QuotedText s) ts d (r, us, rest, up) = (text s r, us, (ts, refl, rest), subst (λ (x : Document). Up fs x us d) (sym (pushed_text front s r)) up)
 backward (At expects.Item front fs) (Label l) ts d (c, us, inner, (vs, r, ws, e, rest, up)) =
     (element l c r, ws, (ts, vs, refl, subst (Items Content c ts) e inner, rest), subst (λ (x : Document). Up fs x ws d) (sym (pushed_elem front l c r)) up)
 backward (At expects.Closing front fs) ParenR ts d (empty, us, e, up) = (empty, us, ap (λ (x : List Terminal). ParenR ∷ x) e, up)
@@ -159,7 +159,7 @@ backward (At expects.Closing front fs) ParenR ts d (element l c r, us, rest, up)
 backward (At expects.Content front fs) ParenR ts d g = (empty, ParenR ∷ ts, inl refl, close_to front fs _ d (close_backward fs front ParenR ts d g))
 backward (At expects.Content front fs) Comma ts d g = (empty, Comma ∷ ts, inl refl, close_to front fs _ d (close_backward fs front Comma ts d g))
 backward (At expects.Content front fs) Other ts d g = (empty, Other ∷ ts, inl refl, close_to front fs _ d (close_backward fs front Other ts d g))
-backward (At expects.More front fs) (Text s) ts d g = (empty, Text s ∷ ts, refl, close_to front fs _ d (close_backward fs front (Text s) ts d g))
+backward (At expects.More front fs) (QuotedText s) ts d g = (empty, QuotedText s ∷ ts, refl, close_to front fs _ d (close_backward fs front (QuotedText s) ts d g))
 backward (At expects.More front fs) (Label l) ts d g = (empty, Label l ∷ ts, refl, close_to front fs _ d (close_backward fs front (Label l) ts d g))
 backward (At expects.More front fs) ParenL ts d g = (empty, ParenL ∷ ts, refl, close_to front fs _ d (close_backward fs front ParenL ts d g))
 backward (At expects.More front fs) ParenR ts d g = (empty, ParenR ∷ ts, refl, close_to front fs _ d (close_backward fs front ParenR ts d g))
@@ -220,7 +220,7 @@ pub completion : (s : State) → (more : List Terminal) × (d : Document) × Com
 completion (At expects.Document front fs) = let up = up_closers fs (join front empty) in (ParenL ∷ ParenR ∷ closers fs, up.0, (empty, closers fs, refl, up.1))
 completion (At expects.Content front fs) = let up = up_closers fs (join front empty) in (closers fs, up.0, (empty, closers fs, inl refl, up.1))
 completion (At expects.More front fs) = let up = up_closers fs (join front empty) in (closers fs, up.0, (empty, closers fs, refl, up.1))
-completion (At expects.Item front fs) = let up = up_closers fs (join front (text [] empty)) in (Text [] ∷ closers fs, up.0, (text [] empty, closers fs, (closers fs, refl, refl), up.1))
+completion (At expects.Item front fs) = let up = up_closers fs (join front (text [] empty)) in (QuotedText [] ∷ closers fs, up.0, (text [] empty, closers fs, (closers fs, refl, refl), up.1))
 completion (At expects.Closing front fs) = let up = up_closers fs (join front empty) in (ParenR ∷ closers fs, up.0, (empty, closers fs, refl, up.1))
 completion (At expects.Closed front fs) = let up = up_closers fs (join front empty) in (closers fs, up.0, (empty, closers fs, refl, up.1))
 completion (Done e) = ([], e, (refl, refl))

@@ -9,7 +9,7 @@ use Rattle.xd_doc.specs.Document.{Document, empty, text, element}
 -- What a token is to the grammar: a text stands with the text that it spells, a label without its
 -- bracket.
 pub data Terminal : Type 0 where
-  Text : (characters : List ℕ) → Terminal
+  QuotedText : (characters : List ℕ) → Terminal
   Label : (word : List ℕ) → Terminal
   ParenL : Terminal
   ParenR : Terminal
@@ -25,10 +25,10 @@ pub data Context : Type 0 where
   Behind : Context
 
 -- how no items are spelled there, before the terminals that follow
-abbrev pub Nothing : Context → List Terminal → List Terminal → Type 0
-Nothing Whole ts rest = ts ≡ ParenL ∷ ParenR ∷ rest
-Nothing Content ts rest = (ts ≡ rest) ⊎ (ts ≡ ParenL ∷ ParenR ∷ rest)
-Nothing Behind ts rest = ts ≡ rest
+abbrev pub NoItems : Context → List Terminal → List Terminal → Type 0
+NoItems Whole ts rest = ts ≡ ParenL ∷ ParenR ∷ rest
+NoItems Content ts rest = (ts ≡ rest) ⊎ (ts ≡ ParenL ∷ ParenR ∷ rest)
+NoItems Behind ts rest = ts ≡ rest
 
 -- an item after another has a comma before it
 abbrev pub Lead : Context → List Terminal → List Terminal → Type 0
@@ -38,9 +38,10 @@ Lead Behind ts item = ts ≡ Comma ∷ item
 
 -- the terminals ts spell these items there, and then the terminals that follow
 abbrev pub Items : Context → Document → List Terminal → List Terminal → Type 0
-Items p empty ts rest = Nothing p ts rest
-Items p (text s r) ts rest = (us : List Terminal) × Lead p ts (Text s ∷ us) × Items Behind r us rest
-Items p (element l c r) ts rest = (us : List Terminal) × (vs : List Terminal) × Lead p ts (Label l ∷ us) × Items Content c us (BracketR ∷ vs) × Items Behind r vs rest
+Items p empty ts rest = NoItems p ts rest
+Items p (text s r) ts rest = (us : List Terminal) × Lead p ts (QuotedText s ∷ us) × Items Behind r us rest
+Items p (element l c r) ts rest =
+    (us : List Terminal) × (vs : List Terminal) × Lead p ts (Label l ∷ us) × Items Content c us (BracketR ∷ vs) × Items Behind r vs rest
 
 -- the terminals spell the document
 abbrev pub Spells : List Terminal → Document → Type 0

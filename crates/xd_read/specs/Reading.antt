@@ -6,7 +6,7 @@ use Rattle.xd_lex.specs.declared.Kind.{Kind}
 use Rattle.xd_lex.specs.declared.Kind.TheVariants as kinds
 use Rattle.xd_lex.specs.Tokens.{Lexeme, tokens_of, IsNotUtf8At}
 use Rattle.xd_lex.specs.Spelled.{unescaped}
-use Rattle.xd_read.specs.Grammar.{Terminal, Text, Label, ParenL, ParenR, BracketR, Comma, End, Other, Spells, Begins}
+use Rattle.xd_read.specs.Grammar.{Terminal, QuotedText, Label, ParenL, ParenR, BracketR, Comma, End, Other, Spells, Begins}
 
 -- the word of a label, which ends with its bracket
 abbrev pub word_of : List ℕ → List ℕ
@@ -14,7 +14,7 @@ word_of label = take (length label - 1) label
 
 -- what a token is to the grammar of documents
 abbrev pub terminal : Kind → List ℕ → Terminal
-terminal kinds.Text t = Text (unescaped t)
+terminal kinds.Text t = QuotedText (unescaped t)
 terminal kinds.Label t = Label (word_of t)
 terminal kinds.ParenL t = ParenL
 terminal kinds.ParenR t = ParenR
@@ -23,9 +23,11 @@ terminal kinds.Comma t = Comma
 terminal kinds.End t = End
 terminal k t = Other
 
+-- the same of a token with its place
 abbrev pub terminal_of : Lexeme → Terminal
 terminal_of x = terminal x.kind x.text
 
+-- what tokens are to the grammar of documents
 abbrev pub terminals_of : List Lexeme → List Terminal
 terminals_of xs = map terminal_of xs
 

@@ -7,7 +7,7 @@ use Rattle.xd_doc.specs.Classes.{NameClass, class_has, is_named}
 use Rattle.xd_doc.proofs.SortedNames.{same_is, is_same}
 use Rattle.xd_rules.specs.declared.atom.Atom.{Atom}
 use Rattle.xd_rules.specs.declared.atom.Atom.TheVariants.{Label, OtherLabel, Text, OtherText}
-use Rattle.xd_rules.specs.Members.{IsOneOf}
+use Rattle.xd_doc.specs.Members.{IsOneOf}
 use Rattle.xd_rules.specs.Heads.{HeadKind, element_in, text_in, Head, Named, matches, all_atoms, atoms_of, labels_of, texts_of}
 use Rattle.xd_rules.specs.Listed.{AreNames}
 use Rattle.xd_rules.specs.Meaning.{takes_label, takes_text, is_text_atom}

@@ -2,7 +2,7 @@
 use Rattle.std.proofs.Common.{ℕ, zero, suc, ◌+◌, ◌≡◌, Bool, true, false, cond, ◌||◌, List, [], ◌∷◌, ◌++◌, map, Some, ◌⊎◌, inl, inr, sym, refl, ap, subst, arith}
 use Rattle.std.specs.List.{list_any, filter, flat_map, AllByRecursion, slice_get}
 use Rattle.xd_rules.specs.declared.atom.Atom.{Atom}
-use Rattle.xd_rules.specs.Members.{IsOneOf}
+use Rattle.xd_doc.specs.Members.{IsOneOf}
 use Rattle.xd_rules.specs.Heads.{Head, Named, atoms_of}
 use Rattle.xd_rules.specs.Rules.{numbered, atoms_from}
 use Rattle.xd_rules.specs.Meaning.{keyed}

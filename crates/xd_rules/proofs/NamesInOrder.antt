@@ -9,9 +9,10 @@ use Rattle.std.proofs.lemmas.Slice.Eq.{bytes_eq-Decides}
 use Rattle.std.specs.declared.cmp.Ordering.{Ordering}
 use Rattle.std.specs.declared.cmp.Ordering.TheVariants.{Less, Equal, Greater}
 use Rattle.xd_doc.specs.Classes.{is_named}
+use Rattle.xd_doc.specs.ByteOrder.{put_word, in_byte_order}
 use Rattle.xd_doc.proofs.Bools.{or_swap, or_twice}
 use Rattle.xd_doc.proofs.SortedNames.{R, same_is, same_words}
-use Rattle.xd_rules.specs.Heads.{Head, HeadKind, Named, labels_of, texts_of, named_in, put_word, in_byte_order}
+use Rattle.xd_rules.specs.Heads.{Head, HeadKind, Named, labels_of, texts_of, named_in}
 use Rattle.xd_rules.specs.Listed.{AreNames, IsSorted}
 
 equal_same : (x y : List ℕ) → R x y ≡ Equal → x ≡ y

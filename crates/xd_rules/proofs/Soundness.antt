@@ -4,7 +4,7 @@ use Rattle.std.specs.List.{AllByRecursion}
 use Rattle.xd_doc.specs.Document.{Document, empty, text, element}
 use Rattle.xd_doc.specs.Classes.{is_named}
 use Rattle.xd_rules.specs.declared.atom.Atom.{Atom}
-use Rattle.xd_rules.specs.Members.{IsOneOf}
+use Rattle.xd_doc.specs.Members.{IsOneOf}
 use Rattle.xd_rules.specs.Listed.{SomeOf}
 use Rattle.xd_rules.specs.Heads.{Head, Named, matches, atoms_of, named_in}
 use Rattle.xd_rules.specs.Rules.{numbered, Claim, ChoiceTree, settles_content, settles_rest, split_on, no_sides, matching, LabelTree, TextTree, TreeRule, Case, CaseRule, HeadAtom, head_atom}

@@ -2,7 +2,7 @@
 use Rattle.std.proofs.Common.{ℕ, zero, suc, ◌+◌, ◌≡◌, Bool, true, false, cond, List, [], ◌∷◌, Option, Some, ◌⊎◌, inl, inr, refl, sym, subst, arith}
 use Rattle.std.specs.List.{AllByRecursion, slice_get}
 use Rattle.xd_rules.specs.declared.atom.Atom.{Atom}
-use Rattle.xd_rules.specs.Members.{IsOneOf}
+use Rattle.xd_doc.specs.Members.{IsOneOf}
 use Rattle.xd_rules.specs.Heads.{Head, matches}
 use Rattle.xd_rules.specs.Rules.{Claim, ChoiceTree, settles_content, settles_rest, split_on, numbered, matching, Sides, on_content, on_rest, HasPart, LeafRule, LabelTree}
 use Rattle.xd_rules.specs.Meaning.{Covered, AllLeaves}

@@ -2,10 +2,8 @@
 -- items that heads tell apart.
 use Rattle.std.specs.Prelude.{ℕ, Bool, false, List, [], ◌∷◌, ◌++◌, map, flat_map}
 use Rattle.std.specs.List.{filter}
-use Rattle.std.specs.Ordering.{nat_cmp}
-use Rattle.std.specs.Cmp.Lexicographic.{slice_cmp}
-use Rattle.std.specs.declared.cmp.Ordering.TheVariants.{Less, Equal, Greater}
 use Rattle.xd_doc.specs.Classes.{LabelClass, TextClass, class_has}
+use Rattle.xd_doc.specs.ByteOrder.{in_byte_order}
 use Rattle.xd_rules.specs.declared.atom.Atom.{Atom}
 use Rattle.xd_rules.specs.declared.atom.Atom.TheVariants.{Label, OtherLabel, Text, OtherText}
 
@@ -28,32 +26,30 @@ matches (text_in c) (Text t) = class_has c t
 matches (text_in c) OtherText = c.except
 matches _ _ = false
 
--- a word among words in byte order, once
-abbrev pub put_word : List ℕ → List (List ℕ) → List (List ℕ)
-put_word w [] = w ∷ []
-put_word w (v ∷ vs) = elim (slice_cmp nat_cmp w v) as (λ _. List (List ℕ)) [ Less ↦ w ∷ (v ∷ vs) | Equal ↦ v ∷ vs | Greater ↦ v ∷ put_word w vs ]
-
-abbrev pub in_byte_order : List (List ℕ) → List (List ℕ)
-in_byte_order [] = []
-in_byte_order (w ∷ ws) = put_word w (in_byte_order ws)
-
--- the labels and the texts that the class names
+-- the labels that the class names
 abbrev pub labels_of : HeadKind → List (List ℕ)
 labels_of (element_in c) = c.names
 labels_of (text_in c) = []
 
+-- the texts that the class names
 abbrev pub texts_of : HeadKind → List (List ℕ)
 texts_of (element_in c) = []
 texts_of (text_in c) = c.names
 
+-- the labels and the texts that the classes of some heads name
 pub record Named : Type 0 where
   pub labels : List (List ℕ)
   pub texts : List (List ℕ)
 
 -- all labels and all texts named in the classes of these heads, in byte order
 abbrev pub named_in : {S : Type 0} → List (Head S) → Named
-named_in {S} hs = record { labels = in_byte_order (flat_map (λ (h : Head S). labels_of h.kind) hs); texts = in_byte_order (flat_map (λ (h : Head S). texts_of h.kind) hs) }
+named_in {S} hs =
+    record {
+      labels = in_byte_order (flat_map (λ (h : Head S). labels_of h.kind) hs);
+      texts = in_byte_order (flat_map (λ (h : Head S). texts_of h.kind) hs);
+    }
 
+-- each of these names, any other label, and any other text
 abbrev pub all_atoms : Named → List Atom
 all_atoms n = (map Label n.labels ++ OtherLabel ∷ []) ++ (map Text n.texts ++ OtherText ∷ [])
 

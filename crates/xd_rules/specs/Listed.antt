@@ -5,7 +5,7 @@ use Rattle.std.specs.List.Sorted.{IsStrictlySortedBy}
 use Rattle.std.specs.Ordering.{nat_cmp}
 use Rattle.std.specs.Cmp.Lexicographic.{slice_cmp}
 use Rattle.xd_doc.specs.Classes.{is_named}
-use Rattle.xd_rules.specs.Members.{IsOneOf}
+use Rattle.xd_doc.specs.Members.{IsOneOf}
 use Rattle.xd_rules.specs.Heads.{Head, Named, labels_of, texts_of}
 
 -- P holds of some element

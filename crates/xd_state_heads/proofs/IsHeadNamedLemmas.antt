@@ -14,7 +14,7 @@ use Rattle.xd_auto.specs.declared.auto.LabelMove.{LabelMove}
 use Rattle.xd_auto.specs.declared.auto.TextMove.{TextMove}
 use Rattle.xd_auto.specs.Automaton.{Automaton, moves_at}
 use Rattle.xd_rules.specs.declared.atom.Atom.{Atom}
-use Rattle.xd_rules.specs.Members.{IsOneOf}
+use Rattle.xd_doc.specs.Members.{IsOneOf}
 use Rattle.xd_rules.specs.Heads.{Head, Named, matches, atoms_of, all_atoms, labels_of, texts_of}
 use Rattle.xd_rules.specs.Listed.{AreNames, IsSorted}
 use Rattle.xd_rules.specs.Rules.{HeadAtom, atoms_from}

@@ -9,7 +9,7 @@ use Rattle.std.proofs.lemmas.List.Folds.{list_any-append}
 use Rattle.xd_doc.specs.Classes.{class_has}
 use Rattle.xd_doc.specs.Word.{is_word}
 use Rattle.xd_doc.proofs.Bools.{and_true, and_assoc}
-use Rattle.xd_read.specs.Grammar.{Terminal, Text, Label, ParenL, ParenR, BracketR, Comma, End, Spells}
+use Rattle.xd_read.specs.Grammar.{Terminal, QuotedText, Label, ParenL, ParenR, BracketR, Comma, End, Spells}
 use Rattle.xd_auto.specs.declared.auto.LabelMove.{LabelMove}
 use Rattle.xd_auto.specs.declared.auto.TextMove.{TextMove}
 use Rattle.xd_auto.specs.Automaton.{Automaton, moves_at}
@@ -130,19 +130,19 @@ module _ (v : Validator) (ts : List Terminal) (h : StandsAfter v ts) where
       (alive_begins v.automaton v.start v.marks.items v.with_items.items e next others (ts ++ t ∷ []) k h.marks h.items)
       (dead_begins_none v.automaton v.start v.marks.items v.with_items.items e next others (ts ++ t ∷ []) k h.items)
 
-  pub text_told : (t : List ℕ) → is_utf8 t ≡ true → (may_take_text v t ≡ true) ↔ GoesOnWith v.automaton v.start ts (Text t)
+  pub text_told : (t : List ℕ) → is_utf8 t ≡ true → (may_take_text v t ≡ true) ↔ GoesOnWith v.automaton v.start ts (QuotedText t)
   text_told t proper = go (takes_item v.position) refl
     where
       next : List Pair
       next = pairs_over v.automaton v.marks.items t v.pairs.items
 
-      go : (b : Bool) → takes_item v.position ≡ b → ((b && list_any (pair_goes_by_text v.automaton v.marks.items t) v.pairs.items) ≡ true) ↔ GoesOnWith v.automaton v.start ts (Text t)
+      go : (b : Bool) → takes_item v.position ≡ b → ((b && list_any (pair_goes_by_text v.automaton v.marks.items t) v.pairs.items) ≡ true) ↔ GoesOnWith v.automaton v.start ts (QuotedText t)
       go true e =
-          subst (λ x. (x ≡ true) ↔ GoesOnWith v.automaton v.start ts (Text t))
+          subst (λ x. (x ≡ true) ↔ GoesOnWith v.automaton v.start ts (QuotedText t))
           (pairs_over-same v.automaton v.marks.items t v.pairs.items (λ p. true) ∙ text_moves_are v.automaton v.marks.items t v.pairs.items)
-          (kept_told (Text t) positions.More next _
+          (kept_told (QuotedText t) positions.More next _
           (text_taken v.automaton v.start v.marks.items h.marks v.position v.pairs.items next _ ts t e proper (pairs_over-same v.automaton v.marks.items t v.pairs.items) h.keeps))
-      go false e = told_by false (λ x. absurd (cc)) (λ x p. not_begun v ts (Text t) h (refuses_none v (Text t) (λ front fs. text_none front fs v.position t e)) p)
+      go false e = told_by false (λ x. absurd (cc)) (λ x p. not_begun v ts (QuotedText t) h (refuses_none v (QuotedText t) (λ front fs. text_none front fs v.position t e)) p)
 
   pub label_told : (l : List ℕ) → is_word l ≡ true → (may_open v l ≡ true) ↔ GoesOnWith v.automaton v.start ts (Label l)
   label_told l proper = go (takes_item v.position) refl

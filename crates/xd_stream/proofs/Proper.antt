@@ -17,7 +17,7 @@ use Rattle.xd_lex.specs.Reading.{IsGap, Reads, blank, broken, comment, end, gap,
 use Rattle.xd_lex.specs.Tokens.{Lexeme, past, start, tokens_of}
 use Rattle.xd_lex.proofs.Fronts.{begins_ascii, word_ascii, blank_ascii}
 use Rattle.xd_lex.proofs.ReadLemmas.{tokens_are_read}
-use Rattle.xd_read.specs.Grammar.{Context, Whole, Content, Behind, Items, Lead, Nothing, Terminal, Text, Label, BracketR, End}
+use Rattle.xd_read.specs.Grammar.{Context, Whole, Content, Behind, Items, Lead, NoItems, Terminal, QuotedText, Label, BracketR, End}
 use Rattle.xd_read.specs.Reading.{terminal, terminals_of, word_of}
 use Rattle.xd_read.proofs.CanonicalSpells.{word_of-label}
 use Rattle.xd_stream.specs.Laws.{SpelledIsProper}
@@ -25,7 +25,7 @@ use Rattle.xd_stream.proofs.QuotedTexts.{unescaped_utf8}
 
 -- a label is a word, and a text is UTF-8
 abbrev IsProperTerminal : Terminal → Type 0
-IsProperTerminal (Text t) = is_utf8 t ≡ true
+IsProperTerminal (QuotedText t) = is_utf8 t ≡ true
 IsProperTerminal (Label l) = is_word l ≡ true
 IsProperTerminal t = Unit {0}
 
@@ -116,7 +116,7 @@ proper_read p bytes ts (broken f) u = (tt, tt)
 
 -- ---- items
 
-nothing_rest : (c : Context) (ts rest : List Terminal) → Nothing c ts rest → AreProperTerminals ts → AreProperTerminals rest
+nothing_rest : (c : Context) (ts rest : List Terminal) → NoItems c ts rest → AreProperTerminals ts → AreProperTerminals rest
 nothing_rest Whole ts rest e h = (subst AreProperTerminals e h).1.1
 nothing_rest Content ts rest (inl e) h = subst AreProperTerminals e h
 nothing_rest Content ts rest (inr e) h = (subst AreProperTerminals e h).1.1
@@ -130,7 +130,7 @@ lead_rest Behind ts item e h = (subst AreProperTerminals e h).1
 items_proper : (c : Context) (d : Document) (ts rest : List Terminal) → Items c d ts rest → AreProperTerminals ts → (is_proper d ≡ true) × AreProperTerminals rest
 items_proper c empty ts rest i h = (refl, nothing_rest c ts rest i h)
 items_proper c (text s r) ts rest (us, lead, behind) h =
-    let here = lead_rest c ts (Text s ∷ us) lead h in
+    let here = lead_rest c ts (QuotedText s ∷ us) lead h in
     let after = items_proper Behind r us rest behind here.1 in
     (and_from (is_utf8 s) (is_proper r) here.0 after.0, after.1)
 items_proper c (element l inner r) ts rest (us, vs, lead, content, behind) h =

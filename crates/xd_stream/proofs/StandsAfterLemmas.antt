@@ -10,7 +10,7 @@ use Rattle.xd_doc.specs.Word.{is_word}
 use Rattle.xd_auto.specs.declared.auto.State.{State}
 use Rattle.xd_auto.specs.Automaton.{Automaton, accepts, moves_at}
 use Rattle.xd_empty.specs.Parts.{AreMarks, is_marked}
-use Rattle.xd_read.specs.Grammar.{Terminal, Text, Label, ParenL, ParenR, BracketR, Comma, End, Other, Spells, Begins}
+use Rattle.xd_read.specs.Grammar.{Terminal, QuotedText, Label, ParenL, ParenR, BracketR, Comma, End, Other, Spells, Begins}
 use Rattle.xd_read.specs.Completes.{Frame, Completes}
 use Rattle.xd_read.specs.declared.moves.Expect.TheVariants as expects
 use Rattle.xd_read.proofs.Machine.{At, Done, step, spelled_completes, completes_spelled}
@@ -65,13 +65,13 @@ stands_with v w ts us at now wss s h e n g p o k = record {
 
 module _ (v w : Validator) (s : SameMarks v w) where
   pub goes_text : (t : List ℕ) → takes_item v.position ≡ true → is_utf8 t ≡ true → w.position ≡ positions.More → w.waiting.items ≡ v.waiting.items → w.places.items ≡ v.places.items
-      → ((f : Pair → Bool) → list_any f w.pairs.items ≡ leads_over_text v.automaton v.marks.items t f v.pairs.items) → Goes v (Text t) w
+      → ((f : Pair → Bool) → list_any f w.pairs.items ≡ leads_over_text v.automaton v.marks.items t f v.pairs.items) → Goes v (QuotedText t) w
   goes_text t takes proper at waiting places steps = record {
     same = same_for v w s;
     stands = λ ts h.
-        stands_with v w ts (ts ++ Text t ∷ []) positions.More w.pairs.items (groups v.waiting.items (reverse v.places.items)) s h at refl (rw (waiting, places) refl) (rw (waiting, places) h.places) (open_more ts (Text t) ∙ h.nesting ∙ sym (ap length places))
+        stands_with v w ts (ts ++ QuotedText t ∷ []) positions.More w.pairs.items (groups v.waiting.items (reverse v.places.items)) s h at refl (rw (waiting, places) refl) (rw (waiting, places) h.places) (open_more ts (QuotedText t) ∙ h.nesting ∙ sym (ap length places))
         (text_taken v.automaton v.start v.marks.items h.marks v.position v.pairs.items w.pairs.items (groups v.waiting.items (reverse v.places.items)) ts t takes proper steps h.keeps);
-    begins = λ ts h. begins_some ts (expected v.position) h.keeps.front h.keeps.frames h.keeps.grammar (Text t) (At expects.More (join h.keeps.front (text t empty)) h.keeps.frames) (text_step h.keeps.front h.keeps.frames v.position t takes);
+    begins = λ ts h. begins_some ts (expected v.position) h.keeps.front h.keeps.frames h.keeps.grammar (QuotedText t) (At expects.More (join h.keeps.front (text t empty)) h.keeps.frames) (text_step h.keeps.front h.keeps.frames v.position t takes);
   }
 
   opened : (places : List ℕ) (n : ℕ) → reverse (places ++ n ∷ []) ≡ n ∷ reverse places
@@ -289,15 +289,15 @@ test_passes v w t (Ok x) g alive = passes_alive v w t g alive
 test_passes v w t (Err e) g alive = tt
 
 -- the same of every text
-pub test_passes_all : {X : Type 0} (v w : Validator) (r : Result X Refusal) → ((t : List ℕ) → is_utf8 t ≡ true → Goes v (Text t) w) → OnOk r ((ts : List Terminal) → StandsAfter w ts → BeginsAccepted w.automaton w.start ts)
-    → OnOk r ((t : List ℕ) → is_utf8 t ≡ true → Passes v (Text t) w)
-test_passes_all v w (Ok x) g alive = λ t u. passes_alive v w (Text t) (g t u) alive
+pub test_passes_all : {X : Type 0} (v w : Validator) (r : Result X Refusal) → ((t : List ℕ) → is_utf8 t ≡ true → Goes v (QuotedText t) w) → OnOk r ((ts : List Terminal) → StandsAfter w ts → BeginsAccepted w.automaton w.start ts)
+    → OnOk r ((t : List ℕ) → is_utf8 t ≡ true → Passes v (QuotedText t) w)
+test_passes_all v w (Ok x) g alive = λ t u. passes_alive v w (QuotedText t) (g t u) alive
 test_passes_all v w (Err e) g alive = tt
 
-pub test_refuses_all : {X : Type 0} (v w : Validator) (r : Result X Refusal) → ((t : List ℕ) → is_utf8 t ≡ true → Goes v (Text t) w) → IfErr r (λ e. (ts : List Terminal) → StandsAfter w ts → BeginsAccepted w.automaton w.start ts → ⊥)
-    → IfErr r (λ e. e ≡ refusals.Outside) → IfErr r (λ e. (t : List ℕ) → is_utf8 t ≡ true → Refuses v (Text t) e)
+pub test_refuses_all : {X : Type 0} (v w : Validator) (r : Result X Refusal) → ((t : List ℕ) → is_utf8 t ≡ true → Goes v (QuotedText t) w) → IfErr r (λ e. (ts : List Terminal) → StandsAfter w ts → BeginsAccepted w.automaton w.start ts → ⊥)
+    → IfErr r (λ e. e ≡ refusals.Outside) → IfErr r (λ e. (t : List ℕ) → is_utf8 t ≡ true → Refuses v (QuotedText t) e)
 test_refuses_all v w (Ok x) g dead is = tt
-test_refuses_all v w (Err e) g dead is = λ t u. subst (Refuses v (Text t)) (sym is) (refuses_dead v w (Text t) (g t u) dead)
+test_refuses_all v w (Err e) g dead is = λ t u. subst (Refuses v (QuotedText t)) (sym is) (refuses_dead v w (QuotedText t) (g t u) dead)
 
 -- ---- commas and parentheses
 

@@ -7,7 +7,7 @@ use Rattle.xd_base.specs.declared.Place.{Place}
 use Rattle.xd_lex.specs.declared.Kind.TheVariants as kinds
 use Rattle.xd_lex.specs.declared.LexFault.{LexFault}
 use Rattle.xd_lex.specs.declared.LexFault.TheVariants.{BadCharacter, OpenText, OpenComment}
-use Rattle.xd_lex.specs.Scan.{is_escape, quoted, commented, one_more, option_more, of_text, of_comment, front_of}
+use Rattle.xd_lex.specs.Scan.{is_escape, quoted_length, commented, one_more, option_more, of_text, of_comment, front_of}
 use Rattle.xd_lex.specs.Spellings.{are_pieces}
 use Rattle.xd_lex.specs.Tokens.{past, tokens_from}
 use Rattle.xd_lex.proofs.Scans.{ahead, option_ahead}
@@ -24,17 +24,17 @@ none_ahead (Ok m) = ap (λ (k : ℕ). Ok k) (let e : m ≡ m + 0 = omega arith i
 none_ahead (Err f) = refl
 
 -- the pieces that were scanned stand in front
-pub quoted_scan : (e : Bool) (xs ys : List ℕ) (f : Bool) → scan_text e xs ≡ Some f → quoted e (xs ++ ys) ≡ ahead (length xs) (quoted f ys)
-quoted_scan e [] ys f h = let same : e ≡ f = cc in rw same (none_ahead (quoted f ys))
+pub quoted_scan : (e : Bool) (xs ys : List ℕ) (f : Bool) → scan_text e xs ≡ Some f → quoted_length e (xs ++ ys) ≡ ahead (length xs) (quoted_length f ys)
+quoted_scan e [] ys f h = let same : e ≡ f = cc in rw same (none_ahead (quoted_length f ys))
 quoted_scan true (b ∷ bs) ys f h = go (is_escape b) h (λ k. quoted_scan false bs ys f k)
   where
-    go : (c : Bool) → cond c (scan_text false bs) None ≡ Some f → (scan_text false bs ≡ Some f → quoted false (bs ++ ys) ≡ ahead (length bs) (quoted f ys)) → cond c (one_more (quoted false (bs ++ ys))) (Err BadCharacter) ≡ ahead (suc (length bs)) (quoted f ys)
-    go true k ih = ap one_more (ih k) ∙ more_ahead (length bs) (quoted f ys)
+    go : (c : Bool) → cond c (scan_text false bs) None ≡ Some f → (scan_text false bs ≡ Some f → quoted_length false (bs ++ ys) ≡ ahead (length bs) (quoted_length f ys)) → cond c (one_more (quoted_length false (bs ++ ys))) (Err BadCharacter) ≡ ahead (suc (length bs)) (quoted_length f ys)
+    go true k ih = ap one_more (ih k) ∙ more_ahead (length bs) (quoted_length f ys)
     go false k ih = absurd (cc)
 quoted_scan false (b ∷ bs) ys f h = go (b == 34) h (λ k. quoted_scan (b == 92) bs ys f k)
   where
-    go : (c : Bool) → cond c None (scan_text (b == 92) bs) ≡ Some f → (scan_text (b == 92) bs ≡ Some f → quoted (b == 92) (bs ++ ys) ≡ ahead (length bs) (quoted f ys)) → cond c (Ok 1) (one_more (quoted (b == 92) (bs ++ ys))) ≡ ahead (suc (length bs)) (quoted f ys)
-    go false k ih = ap one_more (ih k) ∙ more_ahead (length bs) (quoted f ys)
+    go : (c : Bool) → cond c None (scan_text (b == 92) bs) ≡ Some f → (scan_text (b == 92) bs ≡ Some f → quoted_length (b == 92) (bs ++ ys) ≡ ahead (length bs) (quoted_length f ys)) → cond c (Ok 1) (one_more (quoted_length (b == 92) (bs ++ ys))) ≡ ahead (suc (length bs)) (quoted_length f ys)
+    go false k ih = ap one_more (ih k) ∙ more_ahead (length bs) (quoted_length f ys)
     go true k ih = absurd (cc)
 
 pub scan_text-append : (e : Bool) (xs ys : List ℕ) (f : Bool) → scan_text e xs ≡ Some f → scan_text e (xs ++ ys) ≡ scan_text f ys
@@ -89,7 +89,7 @@ scan_comment-append s (b ∷ bs) ys f h = go (s && (b == 41)) h (λ k. scan_comm
 
 -- ---- what stands in front then
 
-text_first : (pieces rest : List ℕ) → front_of 34 (pieces ++ rest) ≡ of_text (quoted false (pieces ++ rest))
+text_first : (pieces rest : List ℕ) → front_of 34 (pieces ++ rest) ≡ of_text (quoted_length false (pieces ++ rest))
 unfolding front_of
 text_first pieces rest = refl
 
@@ -106,7 +106,7 @@ tokens-open_text p pieces f h =
     at_fault (34 ∷ pieces) p OpenText (omega arith)
     (ap (λ (xs : List ℕ). front_of 34 xs) (sym (append-nil pieces)) ∙ text_first pieces [] ∙ ap of_text (quoted_scan false pieces [] f h ∙ none_left f))
   where
-    none_left : (f : Bool) → ahead (length pieces) (quoted f []) ≡ Err OpenText
+    none_left : (f : Bool) → ahead (length pieces) (quoted_length f []) ≡ Err OpenText
     none_left true = refl
     none_left false = refl
 
@@ -114,7 +114,7 @@ tokens-open_text p pieces f h =
 pub tokens-bad_text : (p : Place) (pieces : List ℕ) (c : ℕ) (rest : List ℕ) → scan_text false pieces ≡ Some true → is_escape c ≡ false → tokens_from 0 p (34 ∷ pieces ++ c ∷ rest) ≡ record { kind = kinds.Broken BadCharacter; text = []; place = p } ∷ []
 tokens-bad_text p pieces c rest h e =
     at_fault (34 ∷ pieces ++ c ∷ rest) p BadCharacter (omega arith)
-    (text_first pieces (c ∷ rest) ∙ ap of_text (quoted_scan false pieces (c ∷ rest) true h ∙ ap (λ b. ahead (length pieces) (cond b (one_more (quoted false rest)) (Err BadCharacter))) e))
+    (text_first pieces (c ∷ rest) ∙ ap of_text (quoted_scan false pieces (c ∷ rest) true h ∙ ap (λ b. ahead (length pieces) (cond b (one_more (quoted_length false rest)) (Err BadCharacter))) e))
 
 comment_first : (rest : List ℕ) → front_of 40 (42 ∷ rest) ≡ of_comment (commented false rest)
 unfolding front_of

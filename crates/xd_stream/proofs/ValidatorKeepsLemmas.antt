@@ -9,7 +9,7 @@ use Rattle.xd_doc.specs.Word.{is_word}
 use Rattle.xd_doc.specs.Classes.{class_has}
 use Rattle.xd_doc.proofs.Joins.{join_assoc, join_empty-right}
 use Rattle.xd_doc.proofs.Bools.{same_tests}
-use Rattle.xd_read.specs.Grammar.{Terminal, Text, Label, BracketR, Spells}
+use Rattle.xd_read.specs.Grammar.{Terminal, QuotedText, Label, BracketR, Spells}
 use Rattle.xd_read.specs.Completes.{Frame, Completes}
 use Rattle.xd_read.specs.declared.moves.Expect.TheVariants as expects
 use Rattle.xd_read.proofs.Machine.{At}
@@ -84,12 +84,12 @@ module _ (a : Automaton) (s : State) (marks : List Bool) (m : AreMarks a marks) 
       stays false e = refl
 
   pub text_taken : (e : Position) (now next : List Pair) (wss : List (List Waiting)) (ts : List Terminal) (t : List ℕ) → takes_item e ≡ true → is_utf8 t ≡ true
-      → ((f : Pair → Bool) → list_any f next ≡ leads_over_text a marks t f now) → Keeps a s marks e now wss ts → Keeps a s marks positions.More next wss (ts ++ Text t ∷ [])
+      → ((f : Pair → Bool) → list_any f next ≡ leads_over_text a marks t f now) → Keeps a s marks e now wss ts → Keeps a s marks positions.More next wss (ts ++ QuotedText t ∷ [])
   text_taken e now next wss ts t takes proper steps k = record {
     front = join k.front (text t empty);
     frames = k.frames;
     depth = k.depth;
-    grammar = went ts (expected e) k.front k.frames k.grammar (Text t) (At expects.More (join k.front (text t empty)) k.frames) (text_step k.front k.frames e t takes);
+    grammar = went ts (expected e) k.front k.frames k.grammar (QuotedText t) (At expects.More (join k.front (text t empty)) k.frames) (text_step k.front k.frames e t takes);
     accepted = λ r rests n.
         ap (λ d. accepts a (whole k.frames d rests) s) (join_assoc k.front (text t empty) r)
         ∙ k.accepted (text t r) rests n

@@ -1,7 +1,7 @@
 -- Terminals that spell what is left of a document, and the document that they spell.
 use Rattle.std.proofs.Common.{◌≡◌, suc, true, List, [], ◌∷◌, length, refl, ap, inl, arith}
 use Rattle.xd_doc.specs.Document.{Document, empty, text, element, join}
-use Rattle.xd_read.specs.Grammar.{Terminal, Text, Label, ParenL, ParenR, BracketR, Comma, End, Context, Whole, Content, Behind, Lead, Items}
+use Rattle.xd_read.specs.Grammar.{Terminal, QuotedText, Label, ParenL, ParenR, BracketR, Comma, End, Context, Whole, Content, Behind, Lead, Items}
 use Rattle.xd_read.specs.Completes.{Frame, Rest, Up}
 use Rattle.xd_stream.specs.Positions.{expected}
 use Rattle.xd_stream.specs.Standing.{whole, may_be_left}
@@ -20,7 +20,7 @@ spell_items Content empty us = (us, inl refl)
 spell_items Behind empty us = (us, refl)
 spell_items m (text s r) us =
     let rest = spell_items Behind r us in
-    let all = lead m (Text s ∷ rest.0) in
+    let all = lead m (QuotedText s ∷ rest.0) in
     (all.0, (rest.0, all.1, rest.1))
 spell_items m (element l c r) us =
     let rest = spell_items Behind r us in

@@ -4,7 +4,7 @@ use Rattle.std.specs.List.{list_any}
 use Rattle.std.specs.Str.{is_utf8}
 use Rattle.xd_doc.specs.Classes.{NameClass, class_has}
 use Rattle.xd_doc.specs.Word.{is_word}
-use Rattle.xd_read.specs.Grammar.{Terminal, Text, Label, ParenL, ParenR, BracketR, Comma, End}
+use Rattle.xd_read.specs.Grammar.{Terminal, QuotedText, Label, ParenL, ParenR, BracketR, Comma, End}
 use Rattle.xd_auto.specs.declared.auto.State.{State}
 use Rattle.xd_auto.specs.Automaton.{Automaton, moves_at}
 use Rattle.xd_empty.specs.Parts.{leads_on, text_leads_on}
@@ -23,7 +23,7 @@ some_has classes name = list_any (λ c. class_has c name) classes
 -- each terminal is told with which some accepted document goes on, and no other
 pub record IsExpected (a : Automaton) (s : State) (ts : List Terminal) (e : Expected) : Type 0 where
   pub labels : (l : List ℕ) → is_word l ≡ true → (some_has e.labels.items l ≡ true) ↔ GoesOnWith a s ts (Label l)
-  pub texts : (t : List ℕ) → is_utf8 t ≡ true → (some_has e.texts.items t ≡ true) ↔ GoesOnWith a s ts (Text t)
+  pub texts : (t : List ℕ) → is_utf8 t ≡ true → (some_has e.texts.items t ≡ true) ↔ GoesOnWith a s ts (QuotedText t)
   pub comma : (e.comma ≡ true) ↔ GoesOnWith a s ts Comma
   pub bracket_r : (e.bracket_r ≡ true) ↔ GoesOnWith a s ts BracketR
   pub paren_l : (e.paren_l ≡ true) ↔ GoesOnWith a s ts ParenL

@@ -3,7 +3,7 @@ use Rattle.std.specs.Prelude.{◌≡◌, ◌==◌, ◌&&◌, ℕ, ◌+◌, Bool,
 use Rattle.xd_base.specs.declared.Place.{Place}
 use Rattle.xd_doc.specs.Word.{are_word_parts}
 use Rattle.xd_lex.specs.Spelled.{unescaped}
-use Rattle.xd_read.specs.Grammar.{Terminal, Text}
+use Rattle.xd_read.specs.Grammar.{Terminal, QuotedText}
 use Rattle.xd_stream.specs.Stop.{told}
 use Rattle.xd_stream.specs.declared.characters.Awaited.{Awaited}
 use Rattle.xd_stream.specs.declared.machine.Mode.{Mode}
@@ -33,4 +33,4 @@ IsColumnsOn n old new = (p : Place) → old ≡ told p → new ≡ told (record 
 
 -- the text whose bytes are held, all but its closing quote
 abbrev pub held_text : Machine → Terminal
-held_text m = Text (unescaped (m.held.items ++ 34 ∷ []))
+held_text m = QuotedText (unescaped (m.held.items ++ 34 ∷ []))

@@ -4,7 +4,7 @@ ghost use Rattle.std.specs.Prelude.{◌≡◌, ◌<◌, ℕ, List, [], true, len
 ghost use Rattle.std.specs.List.{list_any};
 ghost use Rattle.xd_auto.specs.Automaton.{IsState, moves_at, state_number};
 ghost use Rattle.xd_empty.specs.Parts.{is_marked};
-ghost use Rattle.xd_read.specs.Grammar.{Terminal, Text as text_terminal, Label as label_terminal, ParenL, ParenR, BracketR, Comma, End};
+ghost use Rattle.xd_read.specs.Grammar.{Terminal, QuotedText as text_terminal, Label as label_terminal, ParenL, ParenR, BracketR, Comma, End};
 ghost use Rattle.xd_stream.specs.StopByState.{BeginsAccepted};
 ghost use Rattle.xd_stream.specs.Positions.{takes_item, takes_close};
 ghost use Rattle.xd_stream.specs.Expecting.{IsExpected, some_has};

@@ -2,7 +2,7 @@ use Rattle.std.proofs.Common.{List, ℕ, sym, subst, ap, ◌∙◌, IsUtf8}
 use Rattle.xd_lex.specs.declared.Kind.TheVariants as kinds
 use Rattle.xd_lex.specs.Spellings.{IsSpelling}
 use Rattle.xd_lex.specs.Spelled.{unescaped}
-use Rattle.xd_read.specs.Grammar.{Text}
+use Rattle.xd_read.specs.Grammar.{QuotedText}
 use Rattle.xd_stream.specs.Pending.{RefusesByte}
 use Rattle.xd_stream.specs.Validating.{Passes, Refuses}
 use Rattle.xd_stream.proofs.Inside.{quoted_refused, quoted_spelling}
@@ -18,8 +18,8 @@ pub returns-in-Err-clause-err : goal.returns-in-Err-clause-err
 returns-in-Err-clause-err c =
     subst (RefusesByte c.args.self.now 34) (sym c.error_at.ensures)
     (quoted_refused c.args.self.now c.requires.mode c.requires.none c.in-Err.refusal
-    (subst (λ (t : List ℕ). Refuses c.args.self.now.validator (Text t) c.in-Err.refusal) (c.in_ok-text.ensures ∙ ap unescaped (c.in-Ok.ensures.cases.0 ∙ c.deref.ensures.value ∙ c.in_ok-hold.ensures)) c.in-Err.ensures.err))
+    (subst (λ (t : List ℕ). Refuses c.args.self.now.validator (QuotedText t) c.in-Err.refusal) (c.in_ok-text.ensures ∙ ap unescaped (c.in-Ok.ensures.cases.0 ∙ c.deref.ensures.value ∙ c.in_ok-hold.ensures)) c.in-Err.ensures.err))
 
 pub returns-clause-ok : goal.returns-clause-ok
 returns-clause-ok c =
-    subst (λ (t : List ℕ). Passes c.args.self.now.validator (Text t) c.take_text.new.self) (c.in_ok-text.ensures ∙ ap unescaped (c.in-Ok.ensures.cases.0 ∙ c.deref.ensures.value ∙ c.in_ok-hold.ensures)) c.in_default-take_text.ensures.ok
+    subst (λ (t : List ℕ). Passes c.args.self.now.validator (QuotedText t) c.take_text.new.self) (c.in_ok-text.ensures ∙ ap unescaped (c.in-Ok.ensures.cases.0 ∙ c.deref.ensures.value ∙ c.in_ok-hold.ensures)) c.in_default-take_text.ensures.ok

@@ -2,11 +2,11 @@ use Rattle.std.proofs.Common.{[], sym}
 use Rattle.std.proofs.lemmas.Str.{IsUtf8-nil, is_utf8-from_IsUtf8}
 use Rattle.xd_stream.proofs.StandsAfterLemmas.{refuses_none, test_passes_all, test_refuses_all}
 use Rattle.xd_stream.proofs.Grammar.{text_none}
-use Rattle.xd_read.specs.Grammar.{Text}
+use Rattle.xd_read.specs.Grammar.{QuotedText}
 use Rattle.xd_stream.proofs.validator.Validator.take_every_text.Goals as goal
 
 pub returns-then-not-takes_item-clause-err : goal.returns-then-not-takes_item-clause-err
-returns-then-not-takes_item-clause-err c = λ t u. refuses_none c.args.self.now (Text t) (λ front fs. text_none front fs c.args.self.now.position t (sym c.if-not-takes_item.ensures))
+returns-then-not-takes_item-clause-err c = λ t u. refuses_none c.args.self.now (QuotedText t) (λ front fs. text_none front fs c.args.self.now.position t (sym c.if-not-takes_item.ensures))
 
 pub test-requires : goal.test-requires
 test-requires c = (_, (c.in_ok-go_over_every_text.ensures.goes [] (is_utf8-from_IsUtf8 [] IsUtf8-nil)).stands c.requires.ready.0 c.requires.ready.1)
