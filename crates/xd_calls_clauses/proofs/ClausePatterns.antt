@@ -7,10 +7,10 @@ use Rattle.std.proofs.lemmas.List.Elements.{All-from_recursion}
 use Rattle.xd_doc.specs.Document.{Document}
 use Rattle.xd_doc.specs.StoredSeq.{BelongsTo}
 use Rattle.xd_doc.specs.declared.store.Seq.{Seq}
+use Rattle.xd_doc.specs.Members.{IsOneOf}
 use Rattle.xd_syntax.specs.Table.{Row}
 use Rattle.xd_syntax.specs.Placed.{PlacedTree, unplaced}
 use Rattle.xd_syntax.specs.PlacedTable.{placed_at}
-use Rattle.xd_syntax.specs.Ways.{Among}
 use Rattle.xd_syntax.specs.Expression.{Expression}
 use Rattle.xd_syntax.specs.ExpressionTable.{clauses_of}
 use Rattle.xd_syntax.specs.Exprs.{clause_numbers}
@@ -24,7 +24,7 @@ use Rattle.xd_match.specs.Matches.{AreBindings}
 use Rattle.xd_meaning.specs.Meaning.{Environment}
 
 abbrev pub AreLinear : List PlacedTree → Type 0
-AreLinear As = (A : PlacedTree) → Among A As → IsLinear (unplaced A)
+AreLinear As = (A : PlacedTree) → IsOneOf A As → IsLinear (unplaced A)
 
 -- the clauses' patterns are there, and those of all clauses in them are linear
 pub linear_in_clauses : (rows : List Row) (t : ℕ → Expression) (cs : List Clause) → AllByRecursion (λ (c : ℕ × ℕ). c.0 < length rows) (clause_numbers cs) →
@@ -36,7 +36,7 @@ linear_in_clauses rows t (c ∷ cs) there h = (
 )
 
 -- the first of a list is among it
-pub first_among : {X : Type 0} (x : X) (xs : List X) → slice_get xs 0 ≡ Some x → Among x xs
+pub first_among : {X : Type 0} (x : X) (xs : List X) → slice_get xs 0 ≡ Some x → IsOneOf x xs
 first_among x [] e = absurd (cc)
 first_among x (y ∷ ys) e = (let f : y ≡ x = cc in inl f)
 

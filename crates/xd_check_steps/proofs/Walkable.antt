@@ -2,9 +2,9 @@
 use Rattle.std.proofs.Common.{◌≡◌, ℕ, ◌<◌, ◌≤◌, arith, inl, inr, List, [], ◌∷◌, map, length, refl, ap, sym, subst, ◌∙◌}
 use Rattle.std.specs.List.{AllByRecursion}
 use Rattle.xd_base.specs.declared.Place.{Place}
+use Rattle.xd_doc.specs.Members.{IsOneOf}
 use Rattle.xd_syntax.specs.Placed.{PlacedTree, unplaced}
 use Rattle.xd_syntax.specs.PlacedTable.{placed_at}
-use Rattle.xd_syntax.specs.Ways.{Among}
 use Rattle.xd_syntax.specs.Expression.{Expression, Tagged, Called, Matched, arguments_of, joined, place_of_expression}
 use Rattle.xd_syntax.specs.ExpressionTable.{ExprRow, ExprShape, clauses_of, expression_at, shape_expression}
 use Rattle.xd_syntax.specs.Exprs.{expression}
@@ -24,10 +24,10 @@ expr_is p es id q f g e h k =
     ∙ ap (shape_expression (placed_at p.patterns) (expr_at p) q) k
 
 abbrev AreLinear : List PlacedTree → Type 0
-AreLinear As = (A : PlacedTree) → Among A As → IsLinear (unplaced A)
+AreLinear As = (A : PlacedTree) → IsOneOf A As → IsLinear (unplaced A)
 
 linear_of : (p : ProgramTable) (n : ℕ) (e : Expression) → CanBeWalked p n → expr_at p n ≡ e → AreLinear (patterns_in e)
-linear_of p n e h k A m = h.linear A (subst (λ x. Among A (patterns_in x)) (sym k) m)
+linear_of p n e h k A m = h.linear A (subst (λ x. IsOneOf A (patterns_in x)) (sym k) m)
 
 pub walk_content : (p : ProgramTable) (n i : ℕ) (q : Place) (l : List ℕ) → CanBeWalked p n → expr_at p n ≡ Tagged q l (expr_at p i) → i < n → CanBeWalked p i
 walk_content p n i q l h e k = let t = h.there in record { there = omega arith; linear = linear_of p n (Tagged q l (expr_at p i)) h e }

@@ -2,12 +2,12 @@
 use Rattle.std.proofs.Common.{◌≡◌, ◌↔◌, ℕ, true, cond, List, [], ◌∷◌, ap, sym, subst, ◌∙◌}
 use Rattle.xd_doc.specs.Document.{Document}
 use Rattle.xd_doc.specs.Runs.{Run, Trace, held, IsTogether}
+use Rattle.xd_doc.specs.Members.{IsOneOf}
 use Rattle.xd_auto.specs.declared.auto.State.{State}
 use Rattle.xd_auto.specs.Automaton.{Automaton}
 use Rattle.xd_syntax.specs.Words.{has_word}
 use Rattle.xd_syntax.specs.Tree.{Tree, Definitions, occurrences}
 use Rattle.xd_syntax.specs.Placed.{unplaced}
-use Rattle.xd_syntax.specs.Ways.{Among}
 use Rattle.xd_pattern_runs.specs.Laws.{Agree}
 use Rattle.xd_pattern_runs.specs.Linear.{given}
 use Rattle.xd_pattern_runs.specs.Runs.{trace}
@@ -26,7 +26,7 @@ module _ (P : Tree) (a : Automaton) (k : Marking) (s : State) (x : List ℕ) (th
   bound_to_held bs agree =
       agree x ∙ ap (λ b. cond b (held d (trace x (with_marks a k s run)) ∷ []) []) there ∙ ap (λ (t : Trace). held d t ∷ []) (owned_trace a k x s run)
 
-  pub bound : (bs : List (List ℕ × Document)) → Agree (occurrences P) d (with_marks a k s run) bs → (e : Document) → Among (x, e) bs ↔ (e ≡ held d (trace_of a (moves_of k x) s run))
+  pub bound : (bs : List (List ℕ × Document)) → Agree (occurrences P) d (with_marks a k s run) bs → (e : Document) → IsOneOf (x, e) bs ↔ (e ≡ held d (trace_of a (moves_of k x) s run))
   bound bs agree e = (given_once x bs (held d (trace_of a (moves_of k x) s run)) (bound_to_held bs agree)).1 e
 
 pub tells : CompiledTell

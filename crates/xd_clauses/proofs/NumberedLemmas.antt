@@ -9,6 +9,7 @@ use Rattle.std.proofs.lemmas.Bool.{false_from_ne_true, or_parts, or_from}
 use Rattle.xd_doc.specs.Document.{Document, is_proper}
 use Rattle.xd_doc.proofs.Lists.{last_at, all_get, all_take}
 use Rattle.xd_doc.specs.Runs.{held, IsFree}
+use Rattle.xd_doc.specs.Members.{IsOneOf}
 use Rattle.xd_auto.specs.declared.auto.State.{State}
 use Rattle.xd_auto.specs.Automaton.{Automaton, Extends, IsClosed, IsState, KeepsAccepting, accepts}
 use Rattle.xd_auto.proofs.RunLaw.{runs_law}
@@ -20,7 +21,7 @@ use Rattle.xd_syntax.specs.Patterns.{pattern_tree}
 use Rattle.xd_syntax.specs.declared.patterns.PatternId.{PatternId}
 use Rattle.xd_syntax.specs.declared.types.TypeId.{TypeId}
 use Rattle.xd_syntax.specs.May.{Allowance, IsLive, MayBind, NoneTakes}
-use Rattle.xd_syntax.specs.Ways.{Among, Takes}
+use Rattle.xd_syntax.specs.Ways.{Takes}
 use Rattle.xd_syntax.proofs.PlacedTrees.{unplaced_at}
 use Rattle.xd_boole.specs.Meaning.{any_accepts}
 use Rattle.xd_syntax.proofs.Words.{got_among}
@@ -84,7 +85,7 @@ stands_among (x ∷ ws) w e = go (bytes_eq x w) refl (λ h. stands_among ws w h)
         let s = f (sym (ap (λ b. b || has_word ws w) q) ∙ e) in
         let lt = s.below in record { place = suc s.place; below = omega arith; is = s.is }
 
-among_got : (vs : List (List ℕ)) (x : ℕ) → x < length vs → Among (get_or vs x []) vs
+among_got : (vs : List (List ℕ)) (x : ℕ) → x < length vs → IsOneOf (get_or vs x []) vs
 among_got [] x h = absurd (omega arith)
 among_got (v ∷ vs) zero h = inl refl
 among_got (v ∷ vs) (suc x) h = inr (among_got vs x (omega arith))

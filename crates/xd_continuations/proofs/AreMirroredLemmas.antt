@@ -4,10 +4,10 @@ use Rattle.std.specs.List.{list_any}
 use Rattle.std.proofs.lemmas.Bool.{and_from, or_left, or_right}
 use Rattle.xd_doc.specs.Document.{Document, empty, text, element}
 use Rattle.xd_doc.specs.Classes.{LabelClass, TextClass, class_has}
+use Rattle.xd_doc.specs.Members.{IsOneOf}
 use Rattle.xd_doc.proofs.Bools.{and_parts, or_cases}
 use Rattle.xd_syntax.specs.Tree.{Tree, Definitions, seq_of}
 use Rattle.xd_syntax.specs.Fits.{Fits}
-use Rattle.xd_syntax.specs.Ways.{Among}
 use Rattle.xd_laws.specs.Guarded.{Guarded}
 use Rattle.xd_rules.specs.Heads.{HeadKind, element_in, text_in}
 use Rattle.xd_meaning.specs.HeadBegins.{Begins}
@@ -24,7 +24,7 @@ use Rattle.xd_continuations.proofs.MoveLemmas.{moves_are_heads}
 
 -- a move as a head that a document begins as
 abbrev Starts : Definitions → List Move → Document → Type 0
-Starts E ms d = (m : Move) × Among m ms × Begins E (head_of m) d
+Starts E ms d = (m : Move) × IsOneOf m ms × Begins E (head_of m) d
 
 starts_later : (E : Definitions) (m : Move) (ms : List Move) (d : Document) → Starts E ms d → Starts E (m ∷ ms) d
 starts_later E m ms d r = (r.0, inr r.1, r.2)
@@ -118,12 +118,12 @@ module _ (E : Definitions) (guarded : Guarded E) (merged : AreMerged E) (C : Con
   fits_starts : (K : List Tree) → IsContinuation K → (d : Document) → HasItem d → Fits E (seq_of K) d → Starts E (moves E K) d
   fits_starts K k d i f =
       let r = fits_head E guarded (seq_of K) d f i in
-      let q = mem_map head_of r.0 (moves E K) (subst (Among r.0) (moves_are_heads E merged K k) r.1) in
+      let q = mem_map head_of r.0 (moves E K) (subst (IsOneOf r.0) (moves_are_heads E merged K k) r.1) in
       (q.0, q.1, subst (λ h. Begins E h d) (sym q.2) r.2)
 
   starts_fits : (K : List Tree) → IsContinuation K → (d : Document) → Starts E (moves E K) d → Fits E (seq_of K) d
   starts_fits K k d r =
-      head_fits E (seq_of K) (head_of r.0) d (subst (Among (head_of r.0)) (sym (moves_are_heads E merged K k)) (map_mem head_of r.0 (moves E K) r.1)) r.2
+      head_fits E (seq_of K) (head_of r.0) d (subst (IsOneOf (head_of r.0)) (sym (moves_are_heads E merged K k)) (map_mem head_of r.0 (moves E K) r.1)) r.2
 
   pub mirrors_accept : (d : Document) (s : State) (K : List Tree) → C s ≡ Some K → (accepts a d s ≡ true) ↔ Fits E (seq_of K) d
   mirrors_accept empty s K c =

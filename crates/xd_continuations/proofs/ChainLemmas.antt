@@ -5,7 +5,7 @@ use Rattle.std.specs.Prelude.{if◌then◌else◌}
 use Rattle.std.proofs.Math.ListN.{get_or-append}
 use Rattle.std.proofs.Math.Seq.{get_or-append_seam}
 use Rattle.xd_doc.proofs.Lists.{all_append}
-use Rattle.xd_syntax.specs.Ways.{Among}
+use Rattle.xd_doc.specs.Members.{IsOneOf}
 use Rattle.xd_syntax.proofs.Members.{mem_append, append_left, append_right, map_mem, flat_mem}
 use Rattle.xd_laws.proofs.Pigeon.{NoRepeat, pigeon}
 use Rattle.xd_continuations.specs.Bounds.{lists_within}
@@ -13,7 +13,7 @@ use Rattle.xd_continuations.specs.Chains.{lists_after, lists_in, list_at, AreLin
 use Rattle.xd_continuations.specs.declared.links.Link.{Link}
 use Rattle.xd_continuations.proofs.FiniteLemmas.{all_among, among_lists}
 
-pub get_among : {A : Type 0} (d : A) (xs : List A) (i : ℕ) → i < length xs → Among (get_or xs i d) xs
+pub get_among : {A : Type 0} (d : A) (xs : List A) (i : ℕ) → i < length xs → IsOneOf (get_or xs i d) xs
 get_among d [] i h = absurd (omega arith)
 get_among d (x ∷ xs) zero h = inl refl
 get_among d (x ∷ xs) (suc i) h = inr (get_among d xs i (omega arith))
@@ -21,11 +21,11 @@ get_among d (x ∷ xs) (suc i) h = inr (get_among d xs i (omega arith))
 pub same_place : {A : Type 0} (d : A) (xs : List A) → NoRepeat xs → (i j : ℕ) → i < length xs → j < length xs → get_or xs i d ≡ get_or xs j d → i ≡ j
 same_place d [] n i j h k e = absurd (omega arith)
 same_place d (x ∷ xs) n zero zero h k e = refl
-same_place d (x ∷ xs) n zero (suc j) h k e = absurd (n.0 (subst (λ q. Among q xs) (sym e) (get_among d xs j (omega arith))))
-same_place d (x ∷ xs) n (suc i) zero h k e = absurd (n.0 (subst (λ q. Among q xs) e (get_among d xs i (omega arith))))
+same_place d (x ∷ xs) n zero (suc j) h k e = absurd (n.0 (subst (λ q. IsOneOf q xs) (sym e) (get_among d xs j (omega arith))))
+same_place d (x ∷ xs) n (suc i) zero h k e = absurd (n.0 (subst (λ q. IsOneOf q xs) e (get_among d xs i (omega arith))))
 same_place d (x ∷ xs) n (suc i) (suc j) h k e = ap suc (same_place d xs n.1 i j (omega arith) (omega arith) e)
 
-no_repeat_push : {A : Type 0} (xs : List A) (y : A) → NoRepeat xs → (Among y xs → ⊥) → NoRepeat (xs ++ y ∷ [])
+no_repeat_push : {A : Type 0} (xs : List A) (y : A) → NoRepeat xs → (IsOneOf y xs → ⊥) → NoRepeat (xs ++ y ∷ [])
 no_repeat_push [] y n h = (λ m. m, tt)
 no_repeat_push (x ∷ xs) y n h =
     (λ m. elim (mem_append x xs (y ∷ []) m) [ inl a ↦ n.0 a | inr (inl e) ↦ h (inl (sym e)) | inr (inr b) ↦ b ], no_repeat_push xs y n.1 (λ m. h (inr m)))
@@ -34,7 +34,7 @@ no_repeat_push (x ∷ xs) y n h =
 pub record Known {A : Type 0} (older : List (Link A)) (Ks : List (List A)) : Type 0 where
   long : length Ks ≡ length older + 1
   apart : NoRepeat Ks
-  made : (L : List A) → Among L Ks → (L ≡ []) ⊎ ((c : (Link A)) × Among c older × (c.behind < length Ks) × (L ≡ c.item ∷ get_or Ks c.behind []))
+  made : (L : List A) → IsOneOf L Ks → (L ≡ []) ⊎ ((c : (Link A)) × IsOneOf c older × (c.behind < length Ks) × (L ≡ c.item ∷ get_or Ks c.behind []))
 
 pub record IsLinkAt {A : Type 0} (cs : List (Link A)) (i : ℕ) (c : (Link A)) : Type 0 where
   pub older : c.behind ≤ i
@@ -48,7 +48,7 @@ module _ {A : Type 0} where
   abbrev new_list : Link A → List (List A) → List A
   new_list c Ks = c.item ∷ get_or Ks c.behind []
 
-  known_more : (older : List (Link A)) (Ks : List (List A)) (c : (Link A)) → Known older Ks → c.behind ≤ length older → (Among c older → ⊥) →
+  known_more : (older : List (Link A)) (Ks : List (List A)) (c : (Link A)) → Known older Ks → c.behind ≤ length older → (IsOneOf c older → ⊥) →
       Known (older ++ c ∷ []) (Ks ++ (c.item ∷ get_or Ks c.behind []) ∷ [])
   known_more older Ks c k b none = record {
     long = let a = k.long in omega (arith, length-append older (c ∷ []), length-append Ks ((new_list c Ks) ∷ []));
@@ -59,15 +59,15 @@ module _ {A : Type 0} where
       within : c.behind < length Ks
       within = let a = k.long in omega arith
 
-      old_or_new : ((new_list c Ks) ≡ []) ⊎ ((d : (Link A)) × Among d older × (d.behind < length Ks) × ((new_list c Ks) ≡ d.item ∷ get_or Ks d.behind [])) → ⊥
+      old_or_new : ((new_list c Ks) ≡ []) ⊎ ((d : (Link A)) × IsOneOf d older × (d.behind < length Ks) × ((new_list c Ks) ≡ d.item ∷ get_or Ks d.behind [])) → ⊥
       old_or_new (inl e) = cc
       old_or_new (inr r) =
           let p : c.item ≡ (r.0).item = let e = r.3 in cc in
           let q : get_or Ks c.behind [] ≡ get_or Ks (r.0).behind [] = let e = r.3 in cc in
-          none (subst (λ x. Among x older) (sym (same_link c r.0 p (same_place [] Ks k.apart c.behind (r.0).behind within r.2 q))) r.1)
+          none (subst (λ x. IsOneOf x older) (sym (same_link c r.0 p (same_place [] Ks k.apart c.behind (r.0).behind within r.2 q))) r.1)
 
-      lifted : (L : List A) → (L ≡ []) ⊎ ((d : (Link A)) × Among d older × (d.behind < length Ks) × (L ≡ d.item ∷ get_or Ks d.behind [])) →
-          (L ≡ []) ⊎ ((d : (Link A)) × Among d (older ++ c ∷ []) × (d.behind < length (Ks ++ (new_list c Ks) ∷ [])) × (L ≡ d.item ∷ get_or (Ks ++ (new_list c Ks) ∷ []) d.behind []))
+      lifted : (L : List A) → (L ≡ []) ⊎ ((d : (Link A)) × IsOneOf d older × (d.behind < length Ks) × (L ≡ d.item ∷ get_or Ks d.behind [])) →
+          (L ≡ []) ⊎ ((d : (Link A)) × IsOneOf d (older ++ c ∷ []) × (d.behind < length (Ks ++ (new_list c Ks) ∷ [])) × (L ≡ d.item ∷ get_or (Ks ++ (new_list c Ks) ∷ []) d.behind []))
       lifted L (inl e) = inl e
       lifted L (inr r) =
           inr (
@@ -77,7 +77,7 @@ module _ {A : Type 0} where
             r.3 ∙ ap (λ K. (r.0).item ∷ K) (sym (get_or-append Ks ((new_list c Ks) ∷ []) [] (r.0).behind r.2)),
           )
 
-      newest : (L : List A) → (new_list c Ks) ≡ L → (d : (Link A)) × Among d (older ++ c ∷ []) × (d.behind < length (Ks ++ (new_list c Ks) ∷ [])) × (L ≡ d.item ∷ get_or (Ks ++ (new_list c Ks) ∷ []) d.behind [])
+      newest : (L : List A) → (new_list c Ks) ≡ L → (d : (Link A)) × IsOneOf d (older ++ c ∷ []) × (d.behind < length (Ks ++ (new_list c Ks) ∷ [])) × (L ≡ d.item ∷ get_or (Ks ++ (new_list c Ks) ∷ []) d.behind [])
       newest L e = (
         c,
         append_right c older (c ∷ []) (inl refl),
@@ -112,15 +112,15 @@ module _ {A : Type 0} where
       lists_all P (Ks ++ (c.item ∷ get_or Ks c.behind []) ∷ []) cs
       (all_append (AllByRecursion P) Ks ((c.item ∷ get_or Ks c.behind []) ∷ []) a ((b.0, get_all P Ks a c.behind), tt)) b.1
 
-  pub few_links : (all : List A) (most : ℕ) (cells : List (Link A)) → AreLinks cells → AllByRecursion (λ (c : Link A). Among c.item all) cells →
+  pub few_links : (all : List A) (most : ℕ) (cells : List (Link A)) → AreLinks cells → AllByRecursion (λ (c : Link A). IsOneOf c.item all) cells →
       AllByRecursion (λ (K : List A). length K ≤ most) (lists_in cells) → length cells + 1 ≤ room all most
   unfolding room
   few_links all most cells a there short =
       let r = lists_apart cells a in
-      let ps = lists_all (λ p. Among p all) ([] ∷ []) cells (tt, tt) there in
+      let ps = lists_all (λ p. IsOneOf p all) ([] ∷ []) cells (tt, tt) there in
       let h = pigeon (lists_in cells) (lists_within all most) r.0
       (λ K m. among_lists all most K
-      (all_among (AllByRecursion (λ p. Among p all)) (lists_in cells) ps K m)
+      (all_among (AllByRecursion (λ p. IsOneOf p all)) (lists_in cells) ps K m)
       (all_among (λ (L : List A). length L ≤ most) (lists_in cells) short K m)) in
       let e = r.1 in omega arith
 
@@ -185,26 +185,26 @@ module _ {A : Type 0} where
   pub link_at : (cs : List (Link A)) (j : ℕ) (d : (Link A)) → AreLinks cs → j < length cs → IsLinkAt cs j (get_or cs j d)
   link_at cs j d a h = let e : 0 + j ≡ j = omega arith in subst (λ n. IsLinkAt cs n (get_or cs j d)) e (link_after [] cs j d a h)
 
-  links_push : (older rs : List (Link A)) (c : (Link A)) → AreLinksAfter older rs → c.behind ≤ length (older ++ rs) → (Among c (older ++ rs) → ⊥) → AreLinksAfter older (rs ++ c ∷ [])
-  links_push older [] c a h n = (subst (λ cs. c.behind ≤ length cs) (append-nil older) h, (λ m. n (subst (Among c) (sym (append-nil older)) m)), tt)
+  links_push : (older rs : List (Link A)) (c : (Link A)) → AreLinksAfter older rs → c.behind ≤ length (older ++ rs) → (IsOneOf c (older ++ rs) → ⊥) → AreLinksAfter older (rs ++ c ∷ [])
+  links_push older [] c a h n = (subst (λ cs. c.behind ≤ length cs) (append-nil older) h, (λ m. n (subst (IsOneOf c) (sym (append-nil older)) m)), tt)
   links_push older (r ∷ rs) c a h n =
       let e = append_assoc older (r ∷ []) rs in
-      (a.0, a.1, links_push (older ++ r ∷ []) rs c a.2 (subst (λ cs. c.behind ≤ length cs) (sym e) h) (λ m. n (subst (Among c) e m)))
+      (a.0, a.1, links_push (older ++ r ∷ []) rs c a.2 (subst (λ cs. c.behind ≤ length cs) (sym e) h) (λ m. n (subst (IsOneOf c) e m)))
 
-  pub AreLinks-push : (cs : List (Link A)) (c : (Link A)) → AreLinks cs → c.behind ≤ length cs → (Among c cs → ⊥) → AreLinks (cs ++ c ∷ [])
+  pub AreLinks-push : (cs : List (Link A)) (c : (Link A)) → AreLinks cs → c.behind ≤ length cs → (IsOneOf c cs → ⊥) → AreLinks (cs ++ c ∷ [])
   AreLinks-push cs c a h n = links_push [] cs c a h n
 
   -- ---- what an insertion leaves
 
-  any_among : (test : (Link A) → Bool) (c : (Link A)) → ((d : (Link A)) → test d ≡ true → d ≡ c) → (cs : List (Link A)) → list_any test cs ≡ true → Among c cs
+  any_among : (test : (Link A) → Bool) (c : (Link A)) → ((d : (Link A)) → test d ≡ true → d ≡ c) → (cs : List (Link A)) → list_any test cs ≡ true → IsOneOf c cs
   any_among test c right [] h = cc
   any_among test c right (d ∷ cs) h = go (test d) refl h (λ k. any_among test c right cs k)
     where
-      go : (b : Bool) → test d ≡ b → (b || list_any test cs) ≡ true → (list_any test cs ≡ true → Among c cs) → Among c (d ∷ cs)
+      go : (b : Bool) → test d ≡ b → (b || list_any test cs) ≡ true → (list_any test cs ≡ true → IsOneOf c cs) → IsOneOf c (d ∷ cs)
       go true e k rec = inl (right d e)
       go false e k rec = inr (rec k)
 
-  among_any : (test : (Link A) → Bool) (c : (Link A)) → test c ≡ true → (cs : List (Link A)) → Among c cs → list_any test cs ≡ true
+  among_any : (test : (Link A) → Bool) (c : (Link A)) → test c ≡ true → (cs : List (Link A)) → IsOneOf c cs → list_any test cs ≡ true
   among_any test c h [] m = absurd m
   among_any test c h (d ∷ cs) (inl e) = let q : test d ≡ true = ap test e ∙ h in rw q refl
   among_any test c h (d ∷ cs) (inr m) = go (test d) (among_any test c h cs m)

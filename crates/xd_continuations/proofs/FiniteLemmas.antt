@@ -5,7 +5,7 @@ use Rattle.std.specs.List.{AllByRecursion}
 use Rattle.xd_doc.proofs.Lists.{all_more, all_append}
 use Rattle.xd_syntax.specs.Tree.{Tree, Empty, Text, Words, Name, Elem, Seq, Alt, Star, Plus, Opt, Val, Definitions, body}
 use Rattle.xd_doc.specs.Classes.{LabelClass}
-use Rattle.xd_syntax.specs.Ways.{Among}
+use Rattle.xd_doc.specs.Members.{IsOneOf}
 use Rattle.xd_meaning.specs.Heads.{pieces}
 use Rattle.xd_meaning.specs.CanBeEmpty.{can_be_empty}
 use Rattle.xd_syntax.proofs.Members.{append_left, append_right, flat_mem, map_mem}
@@ -15,7 +15,7 @@ use Rattle.xd_continuations.specs.Bounds.{Reached, at_start, by_content, by_rest
 use Rattle.xd_continuations.proofs.MoveLemmas.{all_map, all_cond}
 use Rattle.xd_continuations.proofs.IsBoundedLemmas.{smaller_body, bounded_length, bounded_none, bounded_rest, bounded_pieces, bounded_seq, bounded_seq_rest, bounded_alt, bounded_alt_rest, bounded_star, bounded_plus, bounded_opt, bounded_val, bounded_start, bounded_name}
 
-pub all_among : {A : Type 0} (P : A → Type 0) (xs : List A) → AllByRecursion P xs → (x : A) → Among x xs → P x
+pub all_among : {A : Type 0} (P : A → Type 0) (xs : List A) → AllByRecursion P xs → (x : A) → IsOneOf x xs → P x
 all_among P [] a x m = absurd m
 all_among P (y ∷ xs) a x (inl e) = subst P e a.0
 all_among P (y ∷ xs) a x (inr m) = all_among P xs a.1 x m
@@ -123,7 +123,7 @@ module _ (E : Definitions) (m : ℕ) (Q : Tree → Type 0) (kept : KeptByParts E
   -- ---- all continuations that a type leads to
 
   module _ (tail : RecursOnlyInTail E) (small : NoneLarger m E) where
-    move_keeps : (K : List Tree) → AllByRecursion Q K → IsBounded E m K → (v : Move) → Among v (moves E K) → Keeps E m Q [] v
+    move_keeps : (K : List Tree) → AllByRecursion Q K → IsBounded E m K → (v : Move) → IsOneOf v (moves E K) → Keeps E m Q [] v
     unfolding moves
     move_keeps K q b v i =
         all_among (Keeps E m Q []) (moves E K) (along_keeps tail small (can_be_empty E) (length E) K q b) v i
@@ -139,7 +139,7 @@ module _ (E : Definitions) (m : ℕ) (Q : Tree → Type 0) (kept : KeptByParts E
 
 -- ---- the parts of a type and of all definitions
 
-itself : (T : Tree) → Among T (parts T)
+itself : (T : Tree) → IsOneOf T (parts T)
 itself Empty = inl refl
 itself Text = inl refl
 itself (Words w) = inl refl
@@ -152,17 +152,17 @@ itself (Plus T) = inl refl
 itself (Opt T) = inl refl
 itself (Val x T) = inl refl
 
-defined_in : (E : Definitions) (x : List ℕ) (T : Tree) → body E x ≡ Some T → (p : List ℕ × Tree) × Among p E × (p.1 ≡ T)
+defined_in : (E : Definitions) (x : List ℕ) (T : Tree) → body E x ≡ Some T → (p : List ℕ × Tree) × IsOneOf p E × (p.1 ≡ T)
 defined_in [] x T e = cc
 defined_in (p ∷ ps) x T e = go (bytes_eq p.0 x) e (λ k. defined_in ps x T k)
   where
-    go : (b : Bool) → cond b (Some p.1) (body ps x) ≡ Some T → (body ps x ≡ Some T → (q : List ℕ × Tree) × Among q ps × (q.1 ≡ T)) → (q : List ℕ × Tree) × Among q (p ∷ ps) × (q.1 ≡ T)
+    go : (b : Bool) → cond b (Some p.1) (body ps x) ≡ Some T → (body ps x ≡ Some T → (q : List ℕ × Tree) × IsOneOf q ps × (q.1 ≡ T)) → (q : List ℕ × Tree) × IsOneOf q (p ∷ ps) × (q.1 ≡ T)
     go true e rec = (p, inl refl, cc)
     go false e rec = let r = rec e in (r.0, inr r.1, r.2)
 
 -- all parts are among these, and there are not too many nodes
 pub record IsPartOf (L : List Tree) (m : ℕ) (T : Tree) : Type 0 where
-  pub parts_listed : (U : Tree) → Among U (parts T) → Among U L
+  pub parts_listed : (U : Tree) → IsOneOf U (parts T) → IsOneOf U L
   pub few : node_count T ≤ m
 
 module _ (E : Definitions) (T0 : Tree) (m : ℕ) (small : NoneLarger m E) where
@@ -171,7 +171,7 @@ module _ (E : Definitions) (T0 : Tree) (m : ℕ) (small : NoneLarger m E) where
       let d = defined_in E x T e in
       record {
         parts_listed = λ U i. append_right U (parts T0) (flat_map (λ (p : List ℕ × Tree). parts p.1) E)
-            (flat_mem (λ (p : List ℕ × Tree). parts p.1) U d.0 E d.1 (subst (λ V. Among U (parts V)) (sym d.2) i));
+            (flat_mem (λ (p : List ℕ × Tree). parts p.1) U d.0 E d.1 (subst (λ V. IsOneOf U (parts V)) (sym d.2) i));
         few = smaller_body E m small x T e;
       }
 
@@ -194,7 +194,7 @@ module _ (E : Definitions) (T0 : Tree) (m : ℕ) (small : NoneLarger m E) where
   start_part h = record { parts_listed = λ U i. append_left U (parts T0) (flat_map (λ (p : List ℕ × Tree). parts p.1) E) i; few = h }
 
 -- a short list of members is among the short lists of them
-pub among_lists : {A : Type 0} (xs : List A) (n : ℕ) (ys : List A) → AllByRecursion (λ y. Among y xs) ys → length ys ≤ n → Among ys (lists_within xs n)
+pub among_lists : {A : Type 0} (xs : List A) (n : ℕ) (ys : List A) → AllByRecursion (λ y. IsOneOf y xs) ys → length ys ≤ n → IsOneOf ys (lists_within xs n)
 among_lists xs zero [] a h = inl refl
 among_lists xs zero (y ∷ ys) a h = absurd (omega arith)
 among_lists xs (suc n) [] a h = inl refl
@@ -207,11 +207,11 @@ none_larger [] m h = tt
 none_larger (p ∷ ps) m h = (omega arith, none_larger ps m (omega arith))
 
 -- the continuations that a type leads to are among those that are possible
-pub finitely_many : (E : Definitions) → RecursOnlyInTail E → (T : Tree) {K : List Tree} → Reached E T K → Among K (possible E T)
+pub finitely_many : (E : Definitions) → RecursOnlyInTail E → (T : Tree) {K : List Tree} → Reached E T K → IsOneOf K (possible E T)
 finitely_many E tail T {K} r =
     let m : ℕ = node_count T + nodes_of E in
     let small = none_larger E m (omega arith) in
     let k = reached_keeps E m (IsPartOf (all_parts E T) m) (parts_kept E T m small) (λ U q. q.few) tail small T (start_part E T m small (omega arith)) r in
     among_lists (all_parts E T) (longest E m) K
-    (all_more (IsPartOf (all_parts E T) m) (λ U. Among U (all_parts E T)) K (λ U q. q.parts_listed U (itself U)) k.0)
+    (all_more (IsPartOf (all_parts E T) m) (λ U. IsOneOf U (all_parts E T)) K (λ U q. q.parts_listed U (itself U)) k.0)
     (bounded_length E m K k.1)

@@ -3,8 +3,8 @@
 use Rattle.std.proofs.Common.{◌≡◌, ℕ, ◌+◌, ◌*◌, ◌-◌, ◌≤◌, max, arith, Bool, true, false, cond, List, [], ◌∷◌, ◌++◌, length, length-append, Some, refl, subst, inl}
 use Rattle.std.proofs.Math.Nat.{mul-le-mul_left}
 use Rattle.std.specs.Str.{bytes_eq}
+use Rattle.xd_doc.specs.Members.{IsOneOf}
 use Rattle.xd_syntax.specs.Tree.{Tree, Empty, Text, Words, Name, Elem, Seq, Alt, Star, Plus, Opt, Val, Definitions, body}
-use Rattle.xd_syntax.specs.Ways.{Among}
 use Rattle.xd_meaning.specs.Heads.{pieces}
 use Rattle.xd_syntax.proofs.Members.{append_left, append_right}
 use Rattle.xd_continuations.specs.TailUses.{top_names, inner_names, RecursOnlyInTail}
@@ -38,7 +38,7 @@ few_pieces (Opt T) = omega arith
 few_pieces (Val x T) = omega arith
 
 -- where each name puts at most c before it
-above_any : (N : List ℕ → ℕ) (c : ℕ) (T : Tree) → ((y : List ℕ) → Among y (top_names T) → N y ≤ c) → above_by N T + 1 ≤ c + node_count T
+above_any : (N : List ℕ → ℕ) (c : ℕ) (T : Tree) → ((y : List ℕ) → IsOneOf y (top_names T) → N y ≤ c) → above_by N T + 1 ≤ c + node_count T
 above_any N c Empty h = omega arith
 above_any N c Text h = omega arith
 above_any N c (Words w) h = omega arith
@@ -58,7 +58,7 @@ above_any N c (Opt T) h = let i = above_any N c T h in omega arith
 above_any N c (Val x T) h = let i = above_any N c T h in omega arith
 
 -- where besides each name outside tail position puts m fewer before it
-above_in : (N : List ℕ → ℕ) (c m : ℕ) (T : Tree) → ((y : List ℕ) → Among y (top_names T) → N y ≤ c) → ((y : List ℕ) → Among y (inner_names T) → N y + m ≤ c) →
+above_in : (N : List ℕ → ℕ) (c m : ℕ) (T : Tree) → ((y : List ℕ) → IsOneOf y (top_names T) → N y ≤ c) → ((y : List ℕ) → IsOneOf y (inner_names T) → N y + m ≤ c) →
     node_count T ≤ m → m ≤ c → above_by N T ≤ c
 above_in N c m Empty h k l n = omega arith
 above_in N c m Text h k l n = omega arith

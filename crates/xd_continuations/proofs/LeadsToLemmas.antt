@@ -5,9 +5,9 @@ use Rattle.std.proofs.lemmas.List.{length-map}
 use Rattle.std.proofs.lemmas.Slice.Eq.{bytes_eq-Decides}
 use Rattle.std.proofs.lemmas.Bool.{or_right}
 use Rattle.xd_doc.proofs.Bools.{or_cases}
+use Rattle.xd_doc.specs.Members.{IsOneOf}
 use Rattle.xd_syntax.specs.Words.{has_word}
 use Rattle.xd_syntax.specs.Tree.{Tree, Empty, Text, Words, Name, Elem, Seq, Alt, Star, Plus, Opt, Val, Definitions, body}
-use Rattle.xd_syntax.specs.Ways.{Among}
 use Rattle.xd_laws.specs.Guarded.{Defined}
 use Rattle.xd_syntax.proofs.Members.{mem_append, append_left, append_right, mem_flat, flat_mem}
 use Rattle.xd_laws.proofs.Pigeon.{NoRepeat, pigeon}
@@ -16,12 +16,12 @@ use Rattle.xd_continuations.specs.Bounds.{names_used, led_to, leads, count_named
 
 -- ---- words in a list
 
-has_among : (xs : List (List ℕ)) (w : List ℕ) → has_word xs w ≡ true → Among w xs
+has_among : (xs : List (List ℕ)) (w : List ℕ) → has_word xs w ≡ true → IsOneOf w xs
 has_among [] w h = cc
 has_among (x ∷ xs) w h =
     elim (or_cases (bytes_eq x w) (has_word xs w) h) [ inl a ↦ inl ((bytes_eq-Decides x w).0 a) | inr b ↦ inr (has_among xs w b) ]
 
-pub among_has : (xs : List (List ℕ)) (w : List ℕ) → Among w xs → has_word xs w ≡ true
+pub among_has : (xs : List (List ℕ)) (w : List ℕ) → IsOneOf w xs → has_word xs w ≡ true
 among_has [] w m = absurd m
 among_has (x ∷ xs) w (inl e) = rw ((bytes_eq-Decides x w).1 e) refl
 among_has (x ∷ xs) w (inr m) = or_right (bytes_eq x w) (has_word xs w) (among_has xs w m)
@@ -33,7 +33,7 @@ Route E [] x z = x ≡ z
 Route E (u ∷ us) x z = (y : List ℕ) × (u ≡ x) × UsesTop E x y × Route E us y z
 
 -- from a name on the way
-cut : (E : Definitions) (us : List (List ℕ)) (y x z : List ℕ) → Among x us → Route E us y z → NoRepeat us → (vs : List (List ℕ)) × Route E vs x z × NoRepeat vs
+cut : (E : Definitions) (us : List (List ℕ)) (y x z : List ℕ) → IsOneOf x us → Route E us y z → NoRepeat us → (vs : List (List ℕ)) × Route E vs x z × NoRepeat vs
 cut E [] y x z m r n = absurd m
 cut E (u ∷ us) y x z (inl e) r n = (u ∷ us, subst (λ q. Route E (u ∷ us) q z) (sym r.1 ∙ e) r, n)
 cut E (u ∷ us) y x z (inr m) r n = cut E us r.0 x z m r.3 n.1
@@ -49,17 +49,17 @@ route : (E : Definitions) {x z : List ℕ} → LeadsTo E x z → (us : List (Lis
 route E at_once = ([], refl, tt)
 route E (by_use {x} {y} {z} s l) = let r = route E l in longer E x y z s r.0 r.1 r.2 (has_word r.0 x) refl
 
-sources_defined : (E : Definitions) (us : List (List ℕ)) (x z : List ℕ) → Route E us x z → (u : List ℕ) → Among u us → Defined E u
+sources_defined : (E : Definitions) (us : List (List ℕ)) (x z : List ℕ) → Route E us x z → (u : List ℕ) → IsOneOf u us → Defined E u
 sources_defined E [] x z r u m = absurd m
 sources_defined E (v ∷ us) x z r u (inl e) = subst (Defined E) (sym r.1 ∙ e) ((r.2).0, (r.2).1)
 sources_defined E (v ∷ us) x z r u (inr m) = sources_defined E us r.0 z r.3 u m
 
-defined_among : (E : Definitions) (x : List ℕ) → Defined E x → Among x (map (λ (p : List ℕ × Tree). p.0) E)
+defined_among : (E : Definitions) (x : List ℕ) → Defined E x → IsOneOf x (map (λ (p : List ℕ × Tree). p.0) E)
 defined_among [] x h = let e = h.1 in cc
 defined_among (p ∷ ps) x h = go (bytes_eq p.0 x) refl h.1 (λ d. defined_among ps x d)
   where
     go : (b : Bool) → bytes_eq p.0 x ≡ b → cond b (Some p.1) (body ps x) ≡ Some h.0 →
-        (Defined ps x → Among x (map (λ (q : List ℕ × Tree). q.0) ps)) → Among x (map (λ (q : List ℕ × Tree). q.0) (p ∷ ps))
+        (Defined ps x → IsOneOf x (map (λ (q : List ℕ × Tree). q.0) ps)) → IsOneOf x (map (λ (q : List ℕ × Tree). q.0) (p ∷ ps))
     go true e k rec = inl ((bytes_eq-Decides p.0 x).0 e)
     go false e k rec = inr (rec (h.0, k))
 
@@ -71,14 +71,14 @@ route_short E us x z r n =
 
 -- ---- what the search finds
 
-route_found : (E : Definitions) (us : List (List ℕ)) (x z : List ℕ) → Route E us x z → Among z (led_to E (length us) x)
+route_found : (E : Definitions) (us : List (List ℕ)) (x z : List ℕ) → Route E us x z → IsOneOf z (led_to E (length us) x)
 route_found E [] x z r = inl r
 route_found E (u ∷ us) x z r =
     let s = r.2 in
-    let m = subst (λ o. Among r.0 (names_used o)) (sym s.1) s.2 in
+    let m = subst (λ o. IsOneOf r.0 (names_used o)) (sym s.1) s.2 in
     inr (flat_mem (led_to E (length us)) z r.0 (names_used (body E x)) m (route_found E us r.0 z r.3))
 
-found_more : (E : Definitions) (n m : ℕ) → n ≤ m → (x z : List ℕ) → Among z (led_to E n x) → Among z (led_to E m x)
+found_more : (E : Definitions) (n m : ℕ) → n ≤ m → (x z : List ℕ) → IsOneOf z (led_to E n x) → IsOneOf z (led_to E m x)
 found_more E zero zero h x z k = k
 found_more E zero (suc m) h x z (inl e) = inl e
 found_more E zero (suc m) h x z (inr k) = absurd k
@@ -88,11 +88,11 @@ found_more E (suc n) (suc m) h x z (inr k) =
     let r = mem_flat (led_to E n) z (names_used (body E x)) k in
     inr (flat_mem (led_to E m) z r.0 (names_used (body E x)) r.1 (found_more E n m (omega arith) r.0 z r.2))
 
-used_by : (E : Definitions) (x y : List ℕ) (o : Option Tree) → body E x ≡ o → Among y (names_used o) → UsesTop E x y
+used_by : (E : Definitions) (x y : List ℕ) (o : Option Tree) → body E x ≡ o → IsOneOf y (names_used o) → UsesTop E x y
 used_by E x y None e m = absurd m
 used_by E x y (Some T) e m = (T, e, m)
 
-found_leads : (E : Definitions) (n : ℕ) (x z : List ℕ) → Among z (led_to E n x) → LeadsTo E x z
+found_leads : (E : Definitions) (n : ℕ) (x z : List ℕ) → IsOneOf z (led_to E n x) → LeadsTo E x z
 found_leads E zero x z (inl e) = subst (LeadsTo E x) e at_once
 found_leads E zero x z (inr k) = absurd k
 found_leads E (suc n) x z (inl e) = subst (LeadsTo E x) e at_once
@@ -125,7 +125,7 @@ count_more P Q h (p ∷ ps) = go (P p.0) (Q p.0) (h p.0) (count_more P Q h ps)
     go false false k i = i
 
 count_one_more : (P Q : List ℕ → Bool) → ((y : List ℕ) → P y ≡ true → Q y ≡ true) → (x : List ℕ) → P x ≡ false → Q x ≡ true → (E : Definitions) →
-    Among x (map (λ (p : List ℕ × Tree). p.0) E) → count_named P E + 1 ≤ count_named Q E
+    IsOneOf x (map (λ (p : List ℕ × Tree). p.0) E) → count_named P E + 1 ≤ count_named Q E
 count_one_more P Q h x p q [] m = absurd m
 count_one_more P Q h x p q (d ∷ ds) (inl e) =
     let a : P d.0 ≡ false = ap P e ∙ p in
@@ -181,7 +181,7 @@ rank_some E x d =
     let h = count_one_more no_test (leads E x) (λ y k. let e : false ≡ true = k in cc) x refl (leads_exact E x x at_once) E (defined_among E x d) in
     omega (arith, h)
 
-pub inner_top : (T : Tree) (y : List ℕ) → Among y (inner_names T) → Among y (top_names T)
+pub inner_top : (T : Tree) (y : List ℕ) → IsOneOf y (inner_names T) → IsOneOf y (top_names T)
 inner_top Empty y m = m
 inner_top Text y m = m
 inner_top (Words w) y m = m

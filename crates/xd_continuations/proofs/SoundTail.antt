@@ -1,18 +1,18 @@
 -- In a sound program no name leads back to itself by a use outside tail position.
 use Rattle.std.proofs.Common.{◌≡◌, ℕ, Bool, true, false, cond, List, [], map, Some, refl, sym, subst, inl, inr}
 use Rattle.std.specs.Str.{bytes_eq}
+use Rattle.xd_doc.specs.Members.{IsOneOf}
 use Rattle.xd_syntax.specs.Words.{any_word}
 use Rattle.xd_syntax.specs.Tree.{Tree, body, any_type}
 use Rattle.xd_syntax.specs.Placed.{PlacedTree, Empty_at, Text_at, Words_at, Name_at, Elem_at, Seq_at, Alt_at, Star_at, Plus_at, Opt_at, Val_at, unplaced}
 use Rattle.xd_syntax.specs.Program.{TypeDefinition, ProgramTree, names_of}
 use Rattle.xd_syntax.specs.RecursionFaults.{Use, not_tail, behind_type, top_uses, UsesAtTop, Leads, arrived, use_then, AnyUse, IsOutsideTail, UseIn, IsSound}
-use Rattle.xd_syntax.specs.Ways.{Among}
 use Rattle.xd_syntax.proofs.Members.{mem_append, append_left, append_right, map_mem}
 use Rattle.xd_laws.proofs.SoundGuarded.{nothing_kept, keeps_none, placed_definition, listed_use}
 use Rattle.xd_continuations.specs.TailUses.{top_names, inner_names, UsesTop, LeadsTo, at_once, by_use, RecursOnlyInTail}
 
 -- a use outside every label, as one with a place
-placed_use : (T : PlacedTree) (y : List ℕ) → Among y (top_names (unplaced T)) → (u : Use) × Among u (top_uses T) × (u.name ≡ y)
+placed_use : (T : PlacedTree) (y : List ℕ) → IsOneOf y (top_names (unplaced T)) → (u : Use) × IsOneOf u (top_uses T) × (u.name ≡ y)
 placed_use (Empty_at p) y m = absurd m
 placed_use (Text_at p) y m = absurd m
 placed_use (Words_at p w) y m = absurd m
@@ -40,7 +40,7 @@ placed_use (Opt_at p T) y m = placed_use T y m
 placed_use (Val_at p x q T) y m = placed_use T y m
 
 -- and one outside tail position
-placed_inner : (T : PlacedTree) (y : List ℕ) → Among y (inner_names (unplaced T)) → (u : Use) × Among u (top_uses T) × (u.name ≡ y) × (u.is_tail ≡ false)
+placed_inner : (T : PlacedTree) (y : List ℕ) → IsOneOf y (inner_names (unplaced T)) → (u : Use) × IsOneOf u (top_uses T) × (u.name ≡ y) × (u.is_tail ≡ false)
 placed_inner (Empty_at p) y m = absurd m
 placed_inner (Text_at p) y m = absurd m
 placed_inner (Words_at p w) y m = absurd m
@@ -72,11 +72,11 @@ pair t = (t.name, unplaced t.body)
 use_there : (P : ProgramTree) (x y : List ℕ) → UsesTop (names_of P) x y → UsesAtTop P AnyUse x y
 use_there P x y s = go (bytes_eq any_word x) s.0 s.1 s.2
   where
-    go : (b : Bool) (T : Tree) → cond b (Some any_type) (body (map pair P.types) x) ≡ Some T → Among y (top_names T) → UsesAtTop P AnyUse x y
-    go true T e m = let q : any_type ≡ T = cc in absurd (subst (λ Q. Among y (top_names Q)) (sym q) m)
+    go : (b : Bool) (T : Tree) → cond b (Some any_type) (body (map pair P.types) x) ≡ Some T → IsOneOf y (top_names T) → UsesAtTop P AnyUse x y
+    go true T e m = let q : any_type ≡ T = cc in absurd (subst (λ Q. IsOneOf y (top_names Q)) (sym q) m)
     go false T e m =
         let r = placed_definition P.types x T e in
-        let u = placed_use (r.0).body y (subst (λ Q. Among y (top_names Q)) (sym r.4) m) in
+        let u = placed_use (r.0).body y (subst (λ Q. IsOneOf y (top_names Q)) (sym r.4) m) in
         ((r.0).body, u.0, r.3, u.1, u.2, tt)
 
 leads_there : (P : ProgramTree) {x y : List ℕ} → LeadsTo (names_of P) x y → Leads P AnyUse x y
@@ -90,10 +90,10 @@ recurs_only_in_tail P sound x y T e m l = go (bytes_eq any_word x) e
     none = nothing_kept sound.recursion.outside sound.recursion.unguarded sound.recursion.listed
 
     go : (b : Bool) → cond b (Some any_type) (body (map pair P.types) x) ≡ Some T → ⊥
-    go true k = let q : any_type ≡ T = cc in subst (λ Q. Among y (inner_names Q)) (sym q) m
+    go true k = let q : any_type ≡ T = cc in subst (λ Q. IsOneOf y (inner_names Q)) (sym q) m
     go false k =
         let r = placed_definition P.types x T k in
-        let u = placed_inner (r.0).body y (subst (λ Q. Among y (inner_names Q)) (sym r.4) m) in
+        let u = placed_inner (r.0).body y (subst (λ Q. IsOneOf y (inner_names Q)) (sym r.4) m) in
         let w : UseIn = record { owner = (r.0).name; use_there = u.0 } in
         let back : Leads P AnyUse (u.0).name (r.0).name =
         subst (λ a. Leads P AnyUse a (r.0).name) (sym u.2) (subst (Leads P AnyUse y) (sym r.2) (leads_there P l)) in

@@ -1,9 +1,9 @@
 -- The laws of continuations.
 use Rattle.std.proofs.Common.{[], sym, subst, ◌∙◌, append-nil}
 use Rattle.xd_doc.proofs.Lists.{all_more}
+use Rattle.xd_doc.specs.Members.{IsOneOf}
 use Rattle.xd_syntax.specs.Tree.{seq_of}
 use Rattle.xd_syntax.specs.Fits.{Fits}
-use Rattle.xd_syntax.specs.Ways.{Among}
 use Rattle.xd_meaning.specs.Heads.{pieces}
 use Rattle.xd_meaning.specs.HeadBegins.{Begins}
 use Rattle.xd_syntax.specs.Program.{names_of}
@@ -40,16 +40,16 @@ moves_continue_in E m K k =
 pub moves_decide : MovesDecide
 moves_decide P s merged K k d i = (there, back)
   where
-    there : Fits (names_of P) (seq_of K) d → (m : Move) × Among m (moves (names_of P) K) × Begins (names_of P) (head_of m) d
+    there : Fits (names_of P) (seq_of K) d → (m : Move) × IsOneOf m (moves (names_of P) K) × Begins (names_of P) (head_of m) d
     there f =
         let r = fits_head (names_of P) (guarded P s) (seq_of K) d f (filled d i) in
-        let q = mem_map head_of r.0 (moves (names_of P) K) (subst (Among r.0) (moves_are_heads (names_of P) merged K k) r.1) in
+        let q = mem_map head_of r.0 (moves (names_of P) K) (subst (IsOneOf r.0) (moves_are_heads (names_of P) merged K k) r.1) in
         (q.0, q.1, subst (λ h. Begins (names_of P) h d) (sym q.2) r.2)
 
-    back : ((m : Move) × Among m (moves (names_of P) K) × Begins (names_of P) (head_of m) d) → Fits (names_of P) (seq_of K) d
+    back : ((m : Move) × IsOneOf m (moves (names_of P) K) × Begins (names_of P) (head_of m) d) → Fits (names_of P) (seq_of K) d
     back r =
         head_fits (names_of P) (seq_of K) (head_of r.0) d
-        (subst (Among (head_of r.0)) (sym (moves_are_heads (names_of P) merged K k)) (map_mem head_of r.0 (moves (names_of P) K) r.1)) r.2
+        (subst (IsOneOf (head_of r.0)) (sym (moves_are_heads (names_of P) merged K k)) (map_mem head_of r.0 (moves (names_of P) K) r.1)) r.2
 
 pub sound_recurs_in_tail : SoundRecursInTail
 sound_recurs_in_tail P s = recurs_only_in_tail P s

@@ -1,9 +1,9 @@
 -- How long the continuations are that a type leads to, and how many there are.
 use Rattle.std.specs.Prelude.{ℕ, zero, suc, ◌+◌, ◌*◌, ◌≤◌, Bool, cond, max, List, [], ◌∷◌, ◌++◌, map, flat_map, length, Option, Some, None}
 use Rattle.std.specs.List.{AllByRecursion}
+use Rattle.xd_doc.specs.Members.{IsOneOf}
 use Rattle.xd_syntax.specs.Words.{has_word}
 use Rattle.xd_syntax.specs.Tree.{Tree, Empty, Text, Words, Name, Elem, Seq, Alt, Star, Plus, Opt, Val, Definitions, body}
-use Rattle.xd_syntax.specs.Ways.{Among}
 use Rattle.xd_meaning.specs.Heads.{pieces}
 use Rattle.xd_continuations.specs.Continuation.{Move, moves}
 use Rattle.xd_continuations.specs.TailUses.{top_names}
@@ -11,8 +11,8 @@ use Rattle.xd_continuations.specs.TailUses.{top_names}
 -- the continuations that a type leads to, by contents and rests
 pub data Reached (E : Definitions) (T : Tree) : List Tree → Type 0 where
   at_start : Reached E T (pieces T)
-  by_content : {K : List Tree} (m : Move) → Reached E T K → Among m (moves E K) → Reached E T m.content
-  by_rest : {K : List Tree} (m : Move) → Reached E T K → Among m (moves E K) → Reached E T m.rest
+  by_content : {K : List Tree} (m : Move) → Reached E T K → IsOneOf m (moves E K) → Reached E T m.content
+  by_rest : {K : List Tree} (m : Move) → Reached E T K → IsOneOf m (moves E K) → Reached E T m.rest
 
 abbrev pub node_count : Tree → ℕ
 node_count Empty = 1

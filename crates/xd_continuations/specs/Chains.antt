@@ -1,6 +1,6 @@
 -- Interned lists: each link is an item and an older list.
 use Rattle.std.specs.Prelude.{◌≡◌, ℕ, ◌≤◌, ◌⊎◌, List, [], ◌∷◌, ◌++◌, length, get_or}
-use Rattle.xd_syntax.specs.Ways.{Among}
+use Rattle.xd_doc.specs.Members.{IsOneOf}
 use Rattle.xd_continuations.specs.Bounds.{lists_within}
 use Rattle.xd_continuations.specs.declared.links.Link.{Link}
 
@@ -20,14 +20,14 @@ list_at cs n = get_or (lists_in cs) n []
 -- each link stands on an older list, and none stands twice
 abbrev pub AreLinksAfter : {A : Type 0} → List (Link A) → List (Link A) → Type 0
 AreLinksAfter older [] = Unit {0}
-AreLinksAfter older (c ∷ cs) = (c.behind ≤ length older) × (Among c older → ⊥) × AreLinksAfter (older ++ c ∷ []) cs
+AreLinksAfter older (c ∷ cs) = (c.behind ≤ length older) × (IsOneOf c older → ⊥) × AreLinksAfter (older ++ c ∷ []) cs
 
 abbrev pub AreLinks : {A : Type 0} → List (Link A) → Type 0
 AreLinks cs = AreLinksAfter [] cs
 
 -- the link is one of the old ones, and then they stay, or else it is the newest
 abbrev pub HasLink : {A : Type 0} → List (Link A) → Link A → List (Link A) → Type 0
-HasLink old c new = (Among c old × (new ≡ old)) ⊎ (new ≡ old ++ c ∷ [])
+HasLink old c new = (IsOneOf c old × (new ≡ old)) ⊎ (new ≡ old ++ c ∷ [])
 
 -- old links stand where they stood
 pub record KeepsLinks {A : Type 0} (old new : List (Link A)) : Type 0 where

@@ -2,9 +2,9 @@
 use Rattle.std.specs.Prelude.{Some, false, ◌≡◌, ℕ, ◌+◌, ◌<◌, ◌≤◌, ◌↔◌, true, List, ◌∷◌, ◌++◌, map, length}
 use Rattle.std.specs.List.{AllByRecursion}
 use Rattle.xd_doc.specs.Document.{Document, has_item}
+use Rattle.xd_doc.specs.Members.{IsOneOf}
 use Rattle.xd_syntax.specs.Tree.{Tree, Definitions, seq_of}
 use Rattle.xd_syntax.specs.Fits.{Fits}
-use Rattle.xd_syntax.specs.Ways.{Among}
 use Rattle.xd_meaning.specs.Heads.{pieces, heads}
 use Rattle.xd_meaning.specs.HeadBegins.{Begins}
 use Rattle.xd_syntax.specs.Program.{ProgramTree, names_of}
@@ -43,7 +43,7 @@ MovesContinue = (E : Definitions) → AreMerged E → (K : List Tree) → IsCont
 -- moves
 abbrev pub MovesDecide : Type 0
 MovesDecide = (P : ProgramTree) → IsSound P → AreMerged (names_of P) → (K : List Tree) → IsContinuation K → (d : Document) → has_item d ≡ true →
-    Fits (names_of P) (seq_of K) d ↔ ((m : Move) × Among m (moves (names_of P) K) × Begins (names_of P) (head_of m) d)
+    Fits (names_of P) (seq_of K) d ↔ ((m : Move) × IsOneOf m (moves (names_of P) K) × Begins (names_of P) (head_of m) d)
 
 -- a sound program recurs only in tail position
 abbrev pub SoundRecursInTail : Type 0
@@ -51,7 +51,7 @@ SoundRecursInTail = (P : ProgramTree) → IsSound P → RecursOnlyInTail (names_
 
 -- the continuations that a type leads to are among finitely many
 abbrev pub FinitelyMany : Type 0
-FinitelyMany = (P : ProgramTree) → IsSound P → (T : Tree) (K : List Tree) → Reached (names_of P) T K → Among K (possible (names_of P) T)
+FinitelyMany = (P : ProgramTree) → IsSound P → (T : Tree) (K : List Tree) → Reached (names_of P) T K → IsOneOf K (possible (names_of P) T)
 
 -- What a loop over continuations keeps, where no definition has more than m nodes: the tasks that a
 -- bounded task leaves are bounded, and so are the content and the rest of the moves that it gives,

@@ -1,7 +1,7 @@
 -- Uses of names outside every label, on trees without places.
 use Rattle.std.specs.Prelude.{◌≡◌, ℕ, ◌++◌, List, [], ◌∷◌, Some}
+use Rattle.xd_doc.specs.Members.{IsOneOf}
 use Rattle.xd_syntax.specs.Tree.{Tree, Empty, Text, Words, Name, Elem, Seq, Alt, Star, Plus, Opt, Val, Definitions, body}
-use Rattle.xd_syntax.specs.Ways.{Among}
 
 -- the names that are used outside every label
 abbrev pub top_names : Tree → List (List ℕ)
@@ -33,7 +33,7 @@ inner_names (Val x T) = inner_names T
 
 -- the second name is used outside every label of the definition of the first
 abbrev pub UsesTop : Definitions → List ℕ → List ℕ → Type 0
-UsesTop E x y = (T : Tree) × (body E x ≡ Some T) × Among y (top_names T)
+UsesTop E x y = (T : Tree) × (body E x ≡ Some T) × IsOneOf y (top_names T)
 
 -- a chain of such uses leads from the first name to the second, or they are the same
 pub data LeadsTo (E : Definitions) : List ℕ → List ℕ → Type 0 where
@@ -42,4 +42,4 @@ pub data LeadsTo (E : Definitions) : List ℕ → List ℕ → Type 0 where
 
 -- no use outside tail position leads back to the definition that it stands in
 abbrev pub RecursOnlyInTail : Definitions → Type 0
-RecursOnlyInTail E = (x y : List ℕ) (T : Tree) → body E x ≡ Some T → Among y (inner_names T) → LeadsTo E y x → ⊥
+RecursOnlyInTail E = (x y : List ℕ) (T : Tree) → body E x ≡ Some T → IsOneOf y (inner_names T) → LeadsTo E y x → ⊥

@@ -5,7 +5,7 @@ ghost use Rattle.std.specs.Cmp.{unsigned_Decides};
 ghost use Rattle.std.specs.Cmp.Rules.{comparing, hashing};
 ghost use Rattle.std.specs.Hash.{usize};
 ghost use Rattle.std.proofs.Common.{rules};
-ghost use Rattle.xd_syntax.specs.Ways.{Among};
+ghost use Rattle.xd_doc.specs.Members.{IsOneOf};
 ghost use Rattle.xd_continuations.specs.Chains.{AreLinks, HasLink, list_at};
 
 use indexmap::IndexSet;
@@ -107,7 +107,7 @@ impl<T: Internable> Interned<T> {
         requires some { 0 < number }
         requires within { number ≤ length self.now }
         ensures older { result.behind < number }
-        ensures stands { Among result self.now }
+        ensures stands { IsOneOf result self.now }
         ensures list { list_at self.now number ≡ result.item ∷ list_at self.now result.behind }
     {
         self.links.as_slice()[number - 1]

@@ -9,6 +9,7 @@ use Rattle.xd_doc.specs.Stored.{document_at}
 use Rattle.xd_doc.specs.StoredSeq.{BelongsTo}
 use Rattle.xd_doc.specs.StoreNodes.{Keeps, joined_at}
 use Rattle.xd_doc.specs.declared.store.Seq.{Seq}
+use Rattle.xd_doc.specs.Members.{IsOneOf}
 use Rattle.xd_doc.proofs.Lists.{all_append, all_at}
 use Rattle.xd_doc.proofs.Options.{some_same}
 use Rattle.xd_syntax.specs.ExpressionTable.{ExprRow, shape_at}
@@ -16,7 +17,6 @@ use Rattle.xd_syntax.specs.FunctionRow.{FunctionRow}
 use Rattle.xd_syntax.specs.Table.{Row}
 use Rattle.xd_syntax.specs.Program.{FunctionDefinition, function_of}
 use Rattle.xd_syntax.specs.Kept.{ProgramTable, ProgramStands, FunctionStands, program_tree, function_definition, parameter}
-use Rattle.xd_syntax.specs.Ways.{Among}
 use Rattle.xd_syntax.specs.RecursionFaults.{IsSound}
 use Rattle.xd_syntax.proofs.Members.{map_mem}
 use Rattle.xd_pattern_runs.proofs.ClausesLaw.{clauses_are_linear}
@@ -186,15 +186,15 @@ pub part_below : (p : ProgramTable) (is : List ℕ) (k i : ℕ) → AllByRecursi
 part_below p is k i b l e = subst (IsRunnable p) (sym e) (all_at (IsRunnable p) is b k i l)
 
 -- a function's body is runnable
-row_there : (fs : List FunctionRow) (w : List ℕ) (f : FunctionRow) → row_of fs w ≡ Some f → Among f fs
+row_there : (fs : List FunctionRow) (w : List ℕ) (f : FunctionRow) → row_of fs w ≡ Some f → IsOneOf f fs
 row_there [] w f e = absurd (cc)
 row_there (g ∷ fs) w f e = go (bytes_eq g.name w) e (row_there fs w f)
   where
-    go : (b : Bool) → cond b (Some g) (row_of fs w) ≡ Some f → (row_of fs w ≡ Some f → Among f fs) → Among f (g ∷ fs)
+    go : (b : Bool) → cond b (Some g) (row_of fs w) ≡ Some f → (row_of fs w ≡ Some f → IsOneOf f fs) → IsOneOf f (g ∷ fs)
     go true k r = inl (some_same g f k)
     go false k r = inr (r k)
 
-body_there : (types : List Row) (exprs : List ExprRow) (fs : List FunctionRow) (f : FunctionRow) → AllByRecursion (FunctionStands types exprs) fs → Among f fs → f.body.at < length exprs
+body_there : (types : List Row) (exprs : List ExprRow) (fs : List FunctionRow) (f : FunctionRow) → AllByRecursion (FunctionStands types exprs) fs → IsOneOf f fs → f.body.at < length exprs
 body_there types exprs [] f s m = absurd m
 body_there types exprs (g ∷ fs) f s (inl e) = subst (λ (x : FunctionRow). x.body.at < length exprs) e s.0.body
 body_there types exprs (g ∷ fs) f s (inr m) = body_there types exprs fs f s.1 m

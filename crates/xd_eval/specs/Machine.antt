@@ -7,9 +7,9 @@ use Rattle.xd_doc.specs.Document.{Document}
 use Rattle.xd_doc.specs.Stored.{document_at}
 use Rattle.xd_doc.specs.StoredSeq.{BelongsTo}
 use Rattle.xd_doc.specs.declared.store.Seq.{Seq}
+use Rattle.xd_doc.specs.Members.{IsOneOf}
 use Rattle.xd_syntax.specs.Placed.{PlacedTree, unplaced}
 use Rattle.xd_syntax.specs.PlacedTable.{placed_at}
-use Rattle.xd_syntax.specs.Ways.{Among}
 use Rattle.xd_pattern_runs.specs.Linear.{IsLinear}
 use Rattle.xd_pattern_runs.specs.Clauses.{patterns_in}
 use Rattle.xd_syntax.specs.Expression.{Expression, Clauses}
@@ -54,7 +54,7 @@ expression_in p i = expression_at p.patterns p.exprs i
 
 -- each way of each of these patterns binds each of its variables, and binds it once
 abbrev pub AreLinear : List PlacedTree → Type 0
-AreLinear As = (A : PlacedTree) → Among A As → IsLinear (unplaced A)
+AreLinear As = (A : PlacedTree) → IsOneOf A As → IsLinear (unplaced A)
 
 -- the expression is there, and the patterns of all clauses in it are linear
 pub record IsRunnable (p : ProgramTable) (i : ℕ) : Type 0 where

@@ -6,6 +6,7 @@ use Rattle.std.specs.Option.{IfSome, IfNone}
 use Rattle.std.proofs.lemmas.Bool.Decides.{nat_tests}
 use Rattle.std.proofs.lemmas.List.{length-map}
 use Rattle.xd_doc.specs.Classes.{LabelClass, TextClass}
+use Rattle.xd_doc.specs.Members.{IsOneOf}
 use Rattle.xd_doc.proofs.Bools.{and_with_true}
 use Rattle.xd_doc.proofs.Lists.{all_more}
 use Rattle.xd_doc.proofs.Numbers.{number_same as same_number, same_eq}
@@ -18,7 +19,6 @@ use Rattle.xd_syntax.specs.Table.{Row, Form, empty_form, text_form, words_form, 
 use Rattle.xd_syntax.specs.Placed.{unplaced}
 use Rattle.xd_syntax.specs.Program.{TypeDefinition}
 use Rattle.xd_syntax.specs.Kept.{type_definition}
-use Rattle.xd_syntax.specs.Ways.{Among}
 use Rattle.xd_rules.specs.Heads.{text_in}
 use Rattle.xd_meaning.specs.Heads.{all_texts}
 use Rattle.xd_meaning.specs.CanBeEmpty.{can_be_empty, empty_name}
@@ -49,15 +49,15 @@ less_false m n e h = grind (arith, nat_tests)
 -- ---- one more state
 
 module _ {A : Type 0} (test : A → Bool) (x : A) (whole : test x ≡ true) (right : (y : A) → test y ≡ true → y ≡ x) where
-  any_among : (xs : List A) → list_any test xs ≡ true → Among x xs
+  any_among : (xs : List A) → list_any test xs ≡ true → IsOneOf x xs
   any_among [] h = cc
   any_among (y ∷ ys) h = go (test y) refl h (any_among ys)
     where
-      go : (b : Bool) → test y ≡ b → (b || list_any test ys) ≡ true → (list_any test ys ≡ true → Among x ys) → Among x (y ∷ ys)
+      go : (b : Bool) → test y ≡ b → (b || list_any test ys) ≡ true → (list_any test ys ≡ true → IsOneOf x ys) → IsOneOf x (y ∷ ys)
       go true e k rec = inl (right y e)
       go false e k rec = inr (rec k)
 
-  among_any : (xs : List A) → Among x xs → list_any test xs ≡ true
+  among_any : (xs : List A) → IsOneOf x xs → list_any test xs ≡ true
   among_any [] m = absurd m
   among_any (y ∷ ys) (inl e) = let q : test y ≡ true = ap test e ∙ whole in rw q refl
   among_any (y ∷ ys) (inr m) = go (test y) (among_any ys m)
@@ -67,10 +67,10 @@ module _ {A : Type 0} (test : A → Bool) (x : A) (whole : test x ≡ true) (rig
       go false e = e
 
   -- what an insertion leaves
-  pub added : (old new : List A) → new ≡ if list_any test old then old else old ++ x ∷ [] → (Among x old × (new ≡ old)) ⊎ ((Among x old → ⊥) × (new ≡ old ++ x ∷ []))
+  pub added : (old new : List A) → new ≡ if list_any test old then old else old ++ x ∷ [] → (IsOneOf x old × (new ≡ old)) ⊎ ((IsOneOf x old → ⊥) × (new ≡ old ++ x ∷ []))
   added old new e = go (list_any test old) refl e
     where
-      go : (b : Bool) → list_any test old ≡ b → new ≡ if b then old else old ++ x ∷ [] → (Among x old × (new ≡ old)) ⊎ ((Among x old → ⊥) × (new ≡ old ++ x ∷ []))
+      go : (b : Bool) → list_any test old ≡ b → new ≡ if b then old else old ++ x ∷ [] → (IsOneOf x old × (new ≡ old)) ⊎ ((IsOneOf x old → ⊥) × (new ≡ old ++ x ∷ []))
       go true i q = inl (any_among old i, q)
       go false i q = inr ((λ m. let k = among_any old m in let z : true ≡ false = sym k ∙ i in cc), q)
 
@@ -86,11 +86,11 @@ module _ {A : Type 0} (test : A → Bool) (x : A) (whole : test x ≡ true) (rig
       go false q zero e h rec = absurd (omega arith)
       go false q (suc k) e h rec = rec k (omega arith) (omega arith)
 
-  has_place : (xs : List A) → Among x xs → position_or_len test xs < length xs
+  has_place : (xs : List A) → IsOneOf x xs → position_or_len test xs < length xs
   has_place [] m = absurd m
   has_place (y ∷ ys) m = go (test y) refl m (has_place ys)
     where
-      go : (b : Bool) → test y ≡ b → (y ≡ x) ⊎ Among x ys → (Among x ys → position_or_len test ys < length ys) → cond (not b) (1 + position_or_len test ys) 0 < suc (length ys)
+      go : (b : Bool) → test y ≡ b → (y ≡ x) ⊎ IsOneOf x ys → (IsOneOf x ys → position_or_len test ys < length ys) → cond (not b) (1 + position_or_len test ys) 0 < suc (length ys)
       go true q i rec = omega arith
       go false q (inl e) rec = let z : true ≡ false = sym (ap test e ∙ whole) ∙ q in cc
       go false q (inr i) rec = let h = rec i in omega arith
@@ -104,13 +104,13 @@ module _ {A : Type 0} (test : A → Bool) (x : A) (whole : test x ≡ true) (rig
           (place xs (position_or_len test xs) refl (less_true (position_or_len test xs) (length xs) q))
       go false q i = subst (λ (p : Option ℕ). IfSome p (λ j. slice_get xs j ≡ Some x)) (sym i) tt
 
-  pub none_at_place : (xs : List A) (o : Option ℕ) → o ≡ position test xs → IfNone o (Among x xs → ⊥)
+  pub none_at_place : (xs : List A) (o : Option ℕ) → o ≡ position test xs → IfNone o (IsOneOf x xs → ⊥)
   none_at_place xs o e = go (nat_lt (position_or_len test xs) (length xs)) refl e
     where
-      go : (b : Bool) → nat_lt (position_or_len test xs) (length xs) ≡ b → o ≡ cond b (Some (position_or_len test xs)) None → IfNone o (Among x xs → ⊥)
-      go true q i = subst (λ (p : Option ℕ). IfNone p (Among x xs → ⊥)) (sym i) tt
+      go : (b : Bool) → nat_lt (position_or_len test xs) (length xs) ≡ b → o ≡ cond b (Some (position_or_len test xs)) None → IfNone o (IsOneOf x xs → ⊥)
+      go true q i = subst (λ (p : Option ℕ). IfNone p (IsOneOf x xs → ⊥)) (sym i) tt
       go false q i =
-          subst (λ (p : Option ℕ). IfNone p (Among x xs → ⊥)) (sym i)
+          subst (λ (p : Option ℕ). IfNone p (IsOneOf x xs → ⊥)) (sym i)
           (λ m. less_false (position_or_len test xs) (length xs) q (has_place xs m))
 
 -- ---- numbers
@@ -123,10 +123,10 @@ number_added keys old new k v e = added (nat_eq k) k (same_eq k) (same_number k)
 pub number_found : (xs : List ℕ) (k : ℕ) (o : Option ℕ) → o ≡ position (nat_eq k) xs → IfSome o (λ i. slice_get xs i ≡ Some k)
 number_found xs k = found_at_place (nat_eq k) k (same_eq k) (same_number k) xs
 
-pub number_nowhere : (xs : List ℕ) (k : ℕ) (o : Option ℕ) → o ≡ position (nat_eq k) xs → IfNone o (Among k xs → ⊥)
+pub number_nowhere : (xs : List ℕ) (k : ℕ) (o : Option ℕ) → o ≡ position (nat_eq k) xs → IfNone o (IsOneOf k xs → ⊥)
 number_nowhere xs k = none_at_place (nat_eq k) k (same_eq k) (same_number k) xs
 
-once_push : (ks : List ℕ) (k : ℕ) → EachOnce ks → (Among k ks → ⊥) → EachOnce (ks ++ k ∷ [])
+once_push : (ks : List ℕ) (k : ℕ) → EachOnce ks → (IsOneOf k ks → ⊥) → EachOnce (ks ++ k ∷ [])
 once_push [] k e h = ((λ m. m), tt)
 once_push (j ∷ ks) k e h =
     ((λ m. elim (mem_append j ks (k ∷ []) m) [ inl a ↦ e.0 a | inr (inl q) ↦ h (inl (sym q)) | inr (inr b) ↦ b ]), once_push ks k e.1 (λ m. h (inr m)))
@@ -150,7 +150,7 @@ unfolding up_to
 up_to-length zero = refl
 up_to-length (suc n) = let i = up_to-length n in omega arith
 
-up_to_has : (n m : ℕ) → m ≤ n → Among m (up_to n)
+up_to_has : (n m : ℕ) → m ≤ n → IsOneOf m (up_to n)
 unfolding up_to
 up_to_has zero zero h = inl refl
 up_to_has zero (suc m) h = absurd (omega arith)
@@ -162,11 +162,11 @@ up_to_has (suc n) m h = go m (cases m n h) (λ k. up_to_has n m k)
     cases (suc (suc i)) zero k = absurd (omega arith)
     cases (suc i) (suc j) k = elim (cases i j (omega arith)) [ inl e ↦ inl (ap suc e) | inr l ↦ inr (omega arith) ]
 
-    go : (i : ℕ) → (i ≡ suc n) ⊎ (i ≤ n) → (i ≤ n → Among i (up_to n)) → Among i (suc n ∷ up_to n)
+    go : (i : ℕ) → (i ≡ suc n) ⊎ (i ≤ n) → (i ≤ n → IsOneOf i (up_to n)) → IsOneOf i (suc n ∷ up_to n)
     go i (inl e) rec = inl (sym e)
     go i (inr l) rec = inr (rec l)
 
-below : (P : ℕ → Type 0) (ns : List ℕ) → AllByRecursion P ns → (n : ℕ) → Among n ns → P n
+below : (P : ℕ → Type 0) (ns : List ℕ) → AllByRecursion P ns → (n : ℕ) → IsOneOf n ns → P n
 below P [] a n m = absurd m
 below P (k ∷ ns) a n (inl e) = subst P e a.0
 below P (k ∷ ns) a n (inr m) = below P ns a.1 n m

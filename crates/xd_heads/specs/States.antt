@@ -1,8 +1,8 @@
 -- The continuations of an automaton's states, by their numbers: each is one state at most.
 use Rattle.std.specs.Prelude.{◌≡◌, ℕ, ◌<◌, ◌≤◌, ◌+◌, ◌⊎◌, List, [], ◌∷◌, ◌++◌, length, Option}
 use Rattle.std.specs.List.{AllByRecursion, slice_get}
+use Rattle.xd_doc.specs.Members.{IsOneOf}
 use Rattle.xd_syntax.specs.Table.{Row, tree_at}
-use Rattle.xd_syntax.specs.Ways.{Among}
 use Rattle.xd_syntax.specs.declared.types.TypeDef.{TypeDef}
 use Rattle.xd_continuations.specs.TailUses.{RecursOnlyInTail}
 use Rattle.xd_continuations.specs.Bounds.{node_count}
@@ -12,7 +12,7 @@ use Rattle.xd_moves.specs.Cells.{Cell}
 
 abbrev pub EachOnce : List ℕ → Type 0
 EachOnce [] = Unit {0}
-EachOnce (k ∷ ks) = (Among k ks → ⊥) × EachOnce ks
+EachOnce (k ∷ ks) = (IsOneOf k ks → ⊥) × EachOnce ks
 
 -- the number of the continuation of a state, where the state is there
 abbrev pub number_at : List ℕ → ℕ → Option ℕ
@@ -20,7 +20,7 @@ number_at states i = slice_get states i
 
 -- the number is there, after the others if it was not there
 abbrev pub AddsNumber : List ℕ → ℕ → List ℕ → Type 0
-AddsNumber old k new = (Among k old × (new ≡ old)) ⊎ ((Among k old → ⊥) × (new ≡ old ++ k ∷ []))
+AddsNumber old k new = (IsOneOf k old × (new ≡ old)) ⊎ ((IsOneOf k old → ⊥) × (new ≡ old ++ k ∷ []))
 
 -- the continuation is one of the first n and the empty one
 abbrev pub IsOfCell : ℕ → ℕ → Type 0

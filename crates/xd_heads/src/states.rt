@@ -2,8 +2,8 @@
 
 ghost use Rattle.std.specs.List.{slice_get};
 ghost use Rattle.std.specs.Option.{IfSome, IfNone};
-ghost use Rattle.xd_syntax.specs.Ways.{Among};
 ghost use Rattle.std.specs.Prelude.{◌≡◌, length, OnOk, OnErr, []};
+ghost use Rattle.xd_doc.specs.Members.{IsOneOf};
 ghost use Rattle.xd_heads.specs.States.{AddsNumber, EachOnce, number_at};
 
 use indexmap::IndexSet;
@@ -57,7 +57,7 @@ impl States {
     /// The state whose continuation has this number.
     pub(crate) fn find(&self, number: usize) -> Option<usize>
         ensures found { IfSome result (λ state. slice_get self.now state ≡ Some number) }
-        ensures none { IfNone result (Among number self.now → ⊥) }
+        ensures none { IfNone result (IsOneOf number self.now → ⊥) }
     {
         self.numbers.get_index_of(&number)
     }

@@ -5,11 +5,12 @@ use Rattle.std.specs.Str.{bytes_eq, is_utf8}
 use Rattle.std.proofs.lemmas.Bool.{or_left, or_right}
 use Rattle.xd_doc.specs.Word.{is_word}
 use Rattle.xd_doc.specs.Document.{Document, empty, text, element, join, is_proper}
+use Rattle.xd_doc.specs.Members.{IsOneOf}
 use Rattle.xd_doc.proofs.Bools.{and_parts}
 use Rattle.xd_syntax.specs.Words.{has_word}
 use Rattle.xd_syntax.specs.Tree.{Tree, Definitions, body, occurrences}
 use Rattle.xd_syntax.specs.Placed.{PlacedTree, unplaced, variables}
-use Rattle.xd_syntax.specs.Ways.{Way, Among, then_way}
+use Rattle.xd_syntax.specs.Ways.{Way, then_way}
 use Rattle.xd_meaning.specs.Meaning.{Environment, looked_up}
 use Rattle.xd_syntax.specs.Proper.{IsProperTree}
 use Rattle.xd_laws.proofs.Unfoldings.{same_word_eq}
@@ -138,15 +139,15 @@ looked_up-split (u ∷ us) vs x d h = go (bytes_eq u.0 x) h (λ k. looked_up-spl
 same_binding : (v : List ℕ × Document) (y : List ℕ) (d : Document) → v.0 ≡ y → v.1 ≡ d → v ≡ (y, d)
 same_binding v y d e f = ap (λ z. (z, v.1)) e ∙ ap (λ c. (y, c)) f
 
-pub looked_up-among : (vs : Environment) (x : List ℕ) (d : Document) → looked_up vs x ≡ Some d → Among (x, d) vs
+pub looked_up-among : (vs : Environment) (x : List ℕ) (d : Document) → looked_up vs x ≡ Some d → IsOneOf (x, d) vs
 looked_up-among [] x d h = absurd (cc)
 looked_up-among (v ∷ vs) x d h = go (bytes_eq v.0 x) refl h (λ k. looked_up-among vs x d k)
   where
-    go : (b : Bool) → bytes_eq v.0 x ≡ b → cond b (Some v.1) (looked_up vs x) ≡ Some d → (looked_up vs x ≡ Some d → Among (x, d) vs) → Among (x, d) (v ∷ vs)
+    go : (b : Bool) → bytes_eq v.0 x ≡ b → cond b (Some v.1) (looked_up vs x) ≡ Some d → (looked_up vs x ≡ Some d → IsOneOf (x, d) vs) → IsOneOf (x, d) (v ∷ vs)
     go true e k rec = let n : v.0 ≡ x = same_word_eq v.0 x e in let m : v.1 ≡ d = cc in inl (same_binding v x d n m)
     go false e k rec = inr (rec k)
 
-pub proper_among : (vs : Environment) (x : List ℕ) (d : Document) → AreProper vs → Among (x, d) vs → is_proper d ≡ true
+pub proper_among : (vs : Environment) (x : List ℕ) (d : Document) → AreProper vs → IsOneOf (x, d) vs → is_proper d ≡ true
 proper_among [] x d a m = absurd m
 proper_among (v ∷ vs) x d a (inl e) = ap (λ q. is_proper q.1) (sym e) ∙ a.0
 proper_among (v ∷ vs) x d a (inr m) = proper_among vs x d a.1 m

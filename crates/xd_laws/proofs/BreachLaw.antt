@@ -9,7 +9,6 @@ use Rattle.xd_syntax.specs.Tree.{Tree, Definitions}
 use Rattle.xd_meaning.specs.CanBeEmpty.{can_be_empty}
 use Rattle.xd_rules.specs.Heads.{Head, atoms_of, Named, named_in, matches}
 use Rattle.xd_meaning.specs.Heads.{heads}
-use Rattle.xd_syntax.specs.Ways.{Among}
 use Rattle.xd_rules.specs.declared.atom.Atom.{Atom}
 use Rattle.xd_rules.specs.declared.atom.Atom.TheVariants.{Label, OtherLabel, Text, OtherText}
 use Rattle.xd_rules.specs.Rules.{Claim, ChoiceTree, settles_content, settles_rest, split_on, Case, HeadAtom, head_atom, atoms_from, wanted, numbered, matching, Sides, no_sides, on_content, on_rest, HasPart, LeafRule, SplitRule, LabelTree, TextTree, TreeRule, CaseRule}
@@ -234,7 +233,7 @@ module _ (gs : List Goal) (left : Head Tree) (hs : List (Head Tree)) where
 abbrev Stands : List (Head Tree) → HeadAtom → Type 0
 Stands hs w = (h : Head Tree) × (numbered hs w.0 ≡ Some h)
 
-atoms_stand : (names : Named) (n : ℕ) (hs : List (Head Tree)) (w : HeadAtom) → Among w (atoms_from names n hs)
+atoms_stand : (names : Named) (n : ℕ) (hs : List (Head Tree)) (w : HeadAtom) → IsOneOf w (atoms_from names n hs)
     → (k : ℕ) × (w.0 ≡ n + k) × (h : Head Tree) × (numbered hs (suc k) ≡ Some h)
 atoms_stand names n [] w m = absurd m
 atoms_stand names n (g ∷ hs) w m =
@@ -245,7 +244,7 @@ atoms_stand names n (g ∷ hs) w m =
 
 module _ (E : Definitions) (gs : List Goal) (g : Goal) where
   abbrev Stand : List HeadAtom → Type 0
-  Stand ws = (w : HeadAtom) → Among w ws → Stands (heads E g.left) w
+  Stand ws = (w : HeadAtom) → IsOneOf w ws → Stands (heads E g.left) w
 
   wanted_stand : Stand (wanted (heads E g.left) (right_heads E g))
   wanted_stand w m =

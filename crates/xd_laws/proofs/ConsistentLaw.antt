@@ -5,7 +5,6 @@ use Rattle.std.specs.List.{AllByRecursion, list_any}
 use Rattle.xd_doc.specs.Document.{Document, empty, text, element}
 use Rattle.xd_syntax.specs.Tree.{Tree, Definitions}
 use Rattle.xd_syntax.specs.Fits.{Fits}
-use Rattle.xd_syntax.specs.Ways.{Among}
 use Rattle.xd_rules.specs.Heads.{Head, HeadKind, element_in, text_in}
 use Rattle.xd_doc.specs.Members.{IsOneOf}
 use Rattle.xd_rules.specs.Listed.{SomeOf}
@@ -23,16 +22,6 @@ use Rattle.xd_laws.specs.Guarded.{Guarded}
 use Rattle.xd_laws.proofs.Claims.{goal_of, goal_claim}
 use Rattle.xd_laws.proofs.Documents.{filled}
 use Rattle.xd_laws.proofs.HeadsLaw.{head_fits, fits_head, empty_right, empty_exact}
-
-one_of : {A : Type 0} (x : A) (xs : List A) → Among x xs → IsOneOf x xs
-one_of x [] m = absurd m
-one_of x (y ∷ ys) (inl e) = inl e
-one_of x (y ∷ ys) (inr m) = inr (one_of x ys m)
-
-among : {A : Type 0} (x : A) (xs : List A) → IsOneOf x xs → Among x xs
-among x [] m = absurd m
-among x (y ∷ ys) (inl e) = inl e
-among x (y ∷ ys) (inr m) = inr (among x ys m)
 
 module _ (E : Definitions) where
   -- what begins as a head is taken by the head's class
@@ -68,13 +57,13 @@ module _ (E : Definitions) where
     text_from = λ T t d f.
         let h = fits_head E guarded T (text t d) f (filled (text t d) refl) in
         let b = text_taken h.0 t d h.2 in
-        (h.0, one_of h.0 (heads E T) h.1, b.0, b.1);
-    text_to = λ T t d h m e f. head_fits E T h (text t d) (among h (heads E T) m) (text_begins h t d e f);
+        (h.0, h.1, b.0, b.1);
+    text_to = λ T t d h m e f. head_fits E T h (text t d) m (text_begins h t d e f);
     element_from = λ T l c d f.
         let h = fits_head E guarded T (element l c d) f (filled (element l c d) refl) in
         let b = element_taken h.0 l c d h.2 in
-        (h.0, one_of h.0 (heads E T) h.1, b.0, b.1, b.2);
-    element_to = λ T l c d h m e f g. head_fits E T h (element l c d) (among h (heads E T) m) (element_begins h l c d e f g);
+        (h.0, h.1, b.0, b.1, b.2);
+    element_to = λ T l c d h m e f g. head_fits E T h (element l c d) m (element_begins h l c d e f g);
   }
 
 every_leaf : (t : ChoiceTree) → AllLeaves (λ n. Unit {0}) t

@@ -2,29 +2,30 @@
 -- first match.
 use Rattle.std.proofs.Common.{◌≡◌, Bool, true, false, cond, ◌⊎◌, inl, inr, List, [], ◌∷◌, Option, Some, None, refl, sym, subst, ◌∙◌}
 use Rattle.xd_doc.specs.Document.{Document}
+use Rattle.xd_doc.specs.Members.{IsOneOf}
 use Rattle.xd_syntax.specs.Tree.{Tree, Definitions}
 use Rattle.xd_syntax.specs.Fits.{Fits}
-use Rattle.xd_syntax.specs.Ways.{Way, Among, ways, is_whole, IsWholeWay, Takes}
+use Rattle.xd_syntax.specs.Ways.{Way, ways, is_whole, IsWholeWay, Takes}
 use Rattle.xd_meaning.specs.FirstMatch.{first_whole, first}
 use Rattle.xd_meaning.specs.Meaning.{Environment}
 use Rattle.xd_laws.specs.Guarded.{Guarded}
 use Rattle.xd_laws.proofs.Unfoldings.{takes_fits, fits_takes}
 
-whole_found : (ws : List Way) (vs : Environment) → first_whole ws ≡ Some vs → (w : Way) × Among w ws × (is_whole w ≡ true) × (w.bindings ≡ vs)
+whole_found : (ws : List Way) (vs : Environment) → first_whole ws ≡ Some vs → (w : Way) × IsOneOf w ws × (is_whole w ≡ true) × (w.bindings ≡ vs)
 whole_found [] vs e = cc
 whole_found (u ∷ us) vs e = go (is_whole u) refl e (λ k. whole_found us vs k)
   where
     go : (b : Bool) → is_whole u ≡ b → cond b (Some u.bindings) (first_whole us) ≡ Some vs →
-        (first_whole us ≡ Some vs → (w : Way) × Among w us × (is_whole w ≡ true) × (w.bindings ≡ vs)) →
-        (w : Way) × Among w (u ∷ us) × (is_whole w ≡ true) × (w.bindings ≡ vs)
+        (first_whole us ≡ Some vs → (w : Way) × IsOneOf w us × (is_whole w ≡ true) × (w.bindings ≡ vs)) →
+        (w : Way) × IsOneOf w (u ∷ us) × (is_whole w ≡ true) × (w.bindings ≡ vs)
     go true q k rec = (u, inl refl, q, cc)
     go false q k rec = let r = rec k in (r.0, inr r.1, r.2, r.3)
 
-whole_missing : (ws : List Way) → first_whole ws ≡ None → (w : Way) → Among w ws → is_whole w ≡ true → ⊥
+whole_missing : (ws : List Way) → first_whole ws ≡ None → (w : Way) → IsOneOf w ws → is_whole w ≡ true → ⊥
 whole_missing [] e w m h = m
 whole_missing (u ∷ us) e w m h = go (is_whole u) refl e m (λ k. whole_missing us k w)
   where
-    go : (b : Bool) → is_whole u ≡ b → cond b (Some u.bindings) (first_whole us) ≡ None → Among w (u ∷ us) → (first_whole us ≡ None → Among w us → is_whole w ≡ true → ⊥) → ⊥
+    go : (b : Bool) → is_whole u ≡ b → cond b (Some u.bindings) (first_whole us) ≡ None → IsOneOf w (u ∷ us) → (first_whole us ≡ None → IsOneOf w us → is_whole w ≡ true → ⊥) → ⊥
     go true q k m rec = cc
     go false q k (inl e) rec = let f : true ≡ false = sym h ∙ subst (λ v. is_whole v ≡ false) e q in cc
     go false q k (inr m) rec = rec k m h

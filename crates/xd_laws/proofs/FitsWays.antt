@@ -2,10 +2,11 @@
 use Rattle.std.proofs.Common.{◌≡◌, ℕ, suc, zero, ◌+◌, ◌<◌, ◌≤◌, ltb, ltb-true, lt-ltb, arith, Bool, true, false, cond, List, [], ◌∷◌, ◌++◌, map, flat_map, Some, refl, ap, sym, subst, ◌∙◌, inl}
 use Rattle.xd_doc.specs.Document.{Document, empty, text, element, join}
 use Rattle.xd_doc.specs.Classes.{LabelClass, class_has}
+use Rattle.xd_doc.specs.Members.{IsOneOf}
 use Rattle.xd_doc.proofs.Joins.{join_empty-right, join_assoc}
 use Rattle.xd_syntax.specs.Tree.{Tree, Name, Definitions, body}
 use Rattle.xd_syntax.specs.Fits.{Fits}
-use Rattle.xd_syntax.specs.Ways.{Way, no_item_way, then_way, in_turn, item_count, turns, repetition, is_whole, element_ways, binding, ways_within, Among}
+use Rattle.xd_syntax.specs.Ways.{Way, no_item_way, then_way, in_turn, item_count, turns, repetition, is_whole, element_ways, binding, ways_within}
 use Rattle.xd_laws.proofs.Documents.{HasItem, filled, item_count_some}
 use Rattle.xd_syntax.specs.Fits as F
 use Rattle.xd_syntax.proofs.Members.{append_left, append_right, map_mem, flat_mem, flat_same}
@@ -40,34 +41,34 @@ turns_fuel V (suc k) (suc j) d p q =
     (λ v m. cond_same (ltb (item_count v.rest) (item_count d)) _ _ (λ t. let l = ltb-true _ _ t in
     ap (map (then_way v)) (turns_fuel V k j v.rest (omega arith) (omega arith)))))
 
-pub cond_in : {A : Type 0} (b : Bool) (x : A) (xs : List A) → b ≡ true → Among x xs → Among x (cond b xs [])
+pub cond_in : {A : Type 0} (b : Bool) (x : A) (xs : List A) → b ≡ true → IsOneOf x xs → IsOneOf x (cond b xs [])
 cond_in true x xs e h = h
 cond_in false x xs e h = cc
 
-star_step : (V : Document → List Way) (d : Document) (v u : Way) → Among v (V d) → item_count v.rest < item_count d → Among u (repetition V v.rest) → Among (then_way v u) (repetition V d)
+star_step : (V : Document → List Way) (d : Document) (v u : Way) → IsOneOf v (V d) → item_count v.rest < item_count d → IsOneOf u (repetition V v.rest) → IsOneOf (then_way v u) (repetition V d)
 star_step V d v u h lt m = go (item_count d) refl
   where
-    go : (k : ℕ) → item_count d ≡ k → Among (then_way v u) (turns V k d)
+    go : (k : ℕ) → item_count d ≡ k → IsOneOf (then_way v u) (turns V k d)
     go zero e = absurd (omega arith)
     go (suc k) e =
         append_left (then_way v u) _ (no_item_way d ∷ [])
         (flat_mem (λ w. cond (ltb (item_count w.rest) (item_count d)) (map (then_way w) (turns V k w.rest)) []) (then_way v u) v (V d) h
         (cond_in (ltb (item_count v.rest) (item_count d)) (then_way v u) _ (lt-ltb _ _ lt)
-        (map_mem (then_way v) u (turns V k v.rest) (subst (Among u) (turns_fuel V (item_count v.rest) k v.rest (omega arith) (omega arith)) m))))
+        (map_mem (then_way v) u (turns V k v.rest) (subst (IsOneOf u) (turns_fuel V (item_count v.rest) k v.rest (omega arith) (omega arith)) m))))
 
-star_stop : (V : Document → List Way) (d : Document) → Among (no_item_way d) (repetition V d)
+star_stop : (V : Document → List Way) (d : Document) → IsOneOf (no_item_way d) (repetition V d)
 star_stop V d = go (item_count d)
   where
-    go : (k : ℕ) → Among (no_item_way d) (turns V k d)
+    go : (k : ℕ) → IsOneOf (no_item_way d) (turns V k d)
     go zero = inl refl
     go (suc k) = append_right (no_item_way d) _ (no_item_way d ∷ []) (inl refl)
 
-has_last : {A : Type 0} (x : A) (xs : List A) → Among x (xs ++ x ∷ [])
+has_last : {A : Type 0} (x : A) (xs : List A) → IsOneOf x (xs ++ x ∷ [])
 has_last x xs = append_right x xs (x ∷ []) (inl refl)
 
 -- a way of this list that class_has t and leaves r
 abbrev pub HasWay : List Way → Document → Document → Type 0
-HasWay ws t r = (w : Way) × Among w ws × (w.taken ≡ t) × (w.rest ≡ r)
+HasWay ws t r = (w : Way) × IsOneOf w ws × (w.taken ≡ t) × (w.rest ≡ r)
 
 abbrev pub Enough : Definitions → Tree → Document → Type 0
 Enough E T t = (n : ℕ) × ((m : ℕ) → n ≤ m → (r : Document) → HasWay (ways_within E m T (join t r)) t r)
@@ -77,8 +78,8 @@ seq_has : (V W : Document → List Way) (a b d r : Document) → join a b ≡ d 
 seq_has V W a b d r e A B =
     let i : join a (join b r) ≡ join d r = sym (join_assoc a b r) ∙ ap (λ x. join x r) e in (
       then_way A.0 B.0,
-      flat_mem (λ v. map (then_way v) (W v.rest)) (then_way A.0 B.0) A.0 (V (join d r)) (subst (λ x. Among A.0 (V x)) i A.1)
-          (map_mem (then_way A.0) B.0 (W (A.0).rest) (subst (λ x. Among B.0 (W x)) (sym A.3) B.1)),
+      flat_mem (λ v. map (then_way v) (W v.rest)) (then_way A.0 B.0) A.0 (V (join d r)) (subst (λ x. IsOneOf A.0 (V x)) i A.1)
+          (map_mem (then_way A.0) B.0 (W (A.0).rest) (subst (λ x. IsOneOf B.0 (W x)) (sym A.3) B.1)),
       ap (λ x. join x (B.0).taken) A.2 ∙ ap (join a) B.2 ∙ e,
       B.3,
     )
@@ -88,9 +89,9 @@ star_has : (V : Document → List Way) (a b d r : Document) → join a b ≡ d �
 star_has V a b d r e s A B =
     let i : join a (join b r) ≡ join d r = sym (join_assoc a b r) ∙ ap (λ x. join x r) e in (
       then_way A.0 B.0,
-      subst (λ x. Among (then_way A.0 B.0) (repetition V x)) i
+      subst (λ x. IsOneOf (then_way A.0 B.0) (repetition V x)) i
           (star_step V (join a (join b r)) A.0 B.0 A.1 (subst (λ x. item_count x < item_count (join a (join b r))) (sym A.3) (item_count_some a (join b r) s))
-          (subst (λ x. Among B.0 (repetition V x)) (sym A.3) B.1)),
+          (subst (λ x. IsOneOf B.0 (repetition V x)) (sym A.3) B.1)),
       ap (λ x. join x (B.0).taken) A.2 ∙ ap (join a) B.2 ∙ e,
       B.3,
     )

@@ -3,11 +3,11 @@ use Rattle.std.proofs.Common.{◌≡◌, ℕ, suc, zero, ◌+◌, ◌≤◌, ari
 use Rattle.std.proofs.lemmas.Bool.{and_from}
 use Rattle.xd_doc.specs.Document.{Document, empty, text, element, join}
 use Rattle.xd_doc.specs.Classes.{LabelClass, TextClass, class_has}
+use Rattle.xd_doc.specs.Members.{IsOneOf}
 use Rattle.xd_doc.proofs.Bools.{and_parts, or_cases, or_true}
 use Rattle.xd_doc.proofs.Joins.{join_empty-right, join_assoc, joined_none}
 use Rattle.xd_syntax.specs.Tree.{Tree, Empty, Text, Words, Name, Elem, Seq, Alt, Star, Plus, Opt, Val, Definitions, body, seq_of}
 use Rattle.xd_syntax.specs.Fits.{Fits, Split, empty_by}
-use Rattle.xd_syntax.specs.Ways.{Among}
 use Rattle.xd_laws.specs.Guarded.{Front, one, Guarded, Defined}
 use Rattle.xd_meaning.specs.CanBeEmpty.{empty_definition, empty_name, can_be_empty}
 use Rattle.xd_rules.specs.Heads.{Head, element_in, text_in}
@@ -134,15 +134,15 @@ elem_back E c T h e (element l k d) p =
 
 -- with an answer for emptiness that is right
 module _ (E : Definitions) (Z : Tree → Bool) (right : (T : Tree) → Z T ≡ true → Fits E T empty) where
-  turn_back : (T : Tree) (N : List ℕ → List (Head Tree)) → ((h : Head Tree) (d : Document) → Among h (heads_by Z N T) → Begins E h d → Fits E T d) →
-      (h : Head Tree) (d : Document) → Among h (map (with_behind (Star T)) (heads_by Z N T)) → Begins E h d → Split (λ a. HasItem a × Fits E T a) (Fits E (Star T)) d
+  turn_back : (T : Tree) (N : List ℕ → List (Head Tree)) → ((h : Head Tree) (d : Document) → IsOneOf h (heads_by Z N T) → Begins E h d → Fits E T d) →
+      (h : Head Tree) (d : Document) → IsOneOf h (map (with_behind (Star T)) (heads_by Z N T)) → Begins E h d → Split (λ a. HasItem a × Fits E T a) (Fits E (Star T)) d
   turn_back T N back h d m p =
       let r = mem_map (with_behind (Star T)) h (heads_by Z N T) m in
       let q = begins_out E (Star T) r.0 d (subst (λ x. Begins E x d) (sym r.2) p) in
       (q.0, q.1, q.2, (begins_some E r.0 q.0 q.3, back r.0 q.0 r.1 q.3), q.4)
 
-  back_by : (N : List ℕ → List (Head Tree)) → ((x : List ℕ) (h : Head Tree) (d : Document) → Among h (N x) → Begins E h d → Fits E (Name x) d) →
-      (T : Tree) (h : Head Tree) (d : Document) → Among h (heads_by Z N T) → Begins E h d → Fits E T d
+  back_by : (N : List ℕ → List (Head Tree)) → ((x : List ℕ) (h : Head Tree) (d : Document) → IsOneOf h (N x) → Begins E h d → Fits E (Name x) d) →
+      (T : Tree) (h : Head Tree) (d : Document) → IsOneOf h (heads_by Z N T) → Begins E h d → Fits E T d
   back_by N names Empty h d m p = absurd m
   back_by N names Text h d (inl e) p = text_back E all_texts Text (λ s c. F.fits_text) h e d p
   back_by N names Text h d (inr m) p = absurd m
@@ -169,12 +169,12 @@ module _ (E : Definitions) (Z : Tree → Bool) (right : (T : Tree) → Z T ≡ t
   back_by N names (Val x T) h d m p = F.fits_val (back_by N names T h d m p)
 
 -- the answer for names is right, whatever the number of rounds
-body_back : (E : Definitions) (N : Tree → List (Head Tree)) (x : List ℕ) → ((T : Tree) (h : Head Tree) (d : Document) → Among h (N T) → Begins E h d → Fits E T d) → (o : Option Tree) → body E x ≡ o →
-    (h : Head Tree) (d : Document) → Among h (heads_of_definition N o) → Begins E h d → Fits E (Name x) d
+body_back : (E : Definitions) (N : Tree → List (Head Tree)) (x : List ℕ) → ((T : Tree) (h : Head Tree) (d : Document) → IsOneOf h (N T) → Begins E h d → Fits E T d) → (o : Option Tree) → body E x ≡ o →
+    (h : Head Tree) (d : Document) → IsOneOf h (heads_of_definition N o) → Begins E h d → Fits E (Name x) d
 body_back E N x k None e h d m p = absurd m
 body_back E N x k (Some T) e h d m p = F.fits_name e (k T h d m p)
 
-name_back : (E : Definitions) (Z : Tree → Bool) (right : (T : Tree) → Z T ≡ true → Fits E T empty) (n : ℕ) (x : List ℕ) (h : Head Tree) (d : Document) → Among h (heads_of_name Z E n x) → Begins E h d → Fits E (Name x) d
+name_back : (E : Definitions) (Z : Tree → Bool) (right : (T : Tree) → Z T ≡ true → Fits E T empty) (n : ℕ) (x : List ℕ) (h : Head Tree) (d : Document) → IsOneOf h (heads_of_name Z E n x) → Begins E h d → Fits E (Name x) d
 name_back E Z right zero x h d m p = absurd m
 name_back E Z right (suc n) x h d m p =
     body_back E (heads_by Z (heads_of_name Z E n)) x (back_by E Z right (heads_of_name Z E n) (name_back E Z right n)) (body E x) refl h d m p
@@ -205,7 +205,7 @@ unfolding can_be_empty
 empty_right E T h = empty_right_by E (empty_name E (length E)) (empty_name_right E (length E)) T h
 
 -- what begins as a head fits
-pub head_fits : (E : Definitions) (T : Tree) (h : Head Tree) (d : Document) → Among h (heads E T) → Begins E h d → Fits E T d
+pub head_fits : (E : Definitions) (T : Tree) (h : Head Tree) (d : Document) → IsOneOf h (heads E T) → Begins E h d → Fits E T d
 unfolding heads
 head_fits E T h d m p = back_by E (can_be_empty E) (empty_right E) (heads_of_name (can_be_empty E) E (length E)) (name_back E (can_be_empty E) (empty_right E) (length E)) T h d m p
 
@@ -214,7 +214,7 @@ one_round E x T q zero l f = absurd (omega arith)
 one_round E x T q (suc k) l f = rw q (f k refl)
 
 abbrev pub HasHead : Definitions → List (Head Tree) → Document → Type 0
-HasHead E hs d = (h : Head Tree) × Among h hs × Begins E h d
+HasHead E hs d = (h : Head Tree) × IsOneOf h hs × Begins E h d
 
 one_more : (E : Definitions) (Z : Tree → Bool) (x : List ℕ) (T : Tree) (d : Document) → body E x ≡ Some T → (n : ℕ) → 1 ≤ n →
     ((k : ℕ) → n ≡ suc k → HasHead E (heads_by Z (heads_of_name Z E k) T) d) → HasHead E (heads_of_name Z E n x) d

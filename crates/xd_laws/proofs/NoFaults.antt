@@ -3,8 +3,8 @@ use Rattle.std.proofs.Common.{◌≡◌, ℕ, Bool, true, false, cond, inl, inr,
 use Rattle.std.specs.Str.{bytes_eq}
 use Rattle.xd_base.specs.declared.Place.{Place}
 use Rattle.xd_doc.specs.Document.{Document, is_proper, size}
+use Rattle.xd_doc.specs.Members.{IsOneOf}
 use Rattle.xd_doc.proofs.Lists.{append_none_parts}
-use Rattle.xd_syntax.specs.Ways.{Among}
 use Rattle.xd_syntax.specs.Program.{TypeDefinition, Parameter, FunctionDefinition, ProgramTree, function_of}
 use Rattle.xd_syntax.specs.NameFaults.{duplicate_names, unknown_types, known_types, expression_faults, function_faults, name_faults}
 use Rattle.xd_syntax.specs.Order.{put_in, ordered_after}
@@ -64,30 +64,30 @@ no_line p k A ls w (inr h) q d i j = h.0 d i j
 
 -- Functions.
 
-pub function_among : (fs : List FunctionDefinition) (x : List ℕ) (f : FunctionDefinition) → function_of fs x ≡ Some f → Among f fs
+pub function_among : (fs : List FunctionDefinition) (x : List ℕ) (f : FunctionDefinition) → function_of fs x ≡ Some f → IsOneOf f fs
 function_among [] x f e = absurd (cc)
 function_among (g ∷ gs) x f e = go (bytes_eq g.name x) e (λ k. function_among gs x f k)
   where
-    go : (b : Bool) → cond b (Some g) (function_of gs x) ≡ Some f → (function_of gs x ≡ Some f → Among f gs) → Among f (g ∷ gs)
+    go : (b : Bool) → cond b (Some g) (function_of gs x) ≡ Some f → (function_of gs x ≡ Some f → IsOneOf f gs) → IsOneOf f (g ∷ gs)
     go true k rec = inl (cc)
     go false k rec = inr (rec k)
 
 lines_of_one : (P : ProgramTree) (fs : List FunctionDefinition) (ls : List Line) → LinesOfFunctions size P fs ls → faults_among ls ≡ [] →
-    (f : FunctionDefinition) → Among f fs → (ms : List Line) × LinesOfFunction size P f ms × (faults_among ms ≡ [])
+    (f : FunctionDefinition) → IsOneOf f fs → (ms : List Line) × LinesOfFunction size P f ms × (faults_among ms ≡ [])
 lines_of_one P [] ls l q f m = absurd m
 lines_of_one P (g ∷ gs) ls l q f (inl e) =
     let r = no_faults_of ls l.0 l.1 l.4 q in (l.0, subst (λ h. LinesOfFunction size P h l.0) e l.2, r.0)
 lines_of_one P (g ∷ gs) ls l q f (inr m) =
     let r = no_faults_of ls l.0 l.1 l.4 q in lines_of_one P gs l.1 l.3 r.1 f m
 
-pub function_lines : (P : ProgramTree) → IsAccepted P → (f : FunctionDefinition) → Among f P.functions → (ms : List Line) × LinesOfFunction size P f ms × (faults_among ms ≡ [])
+pub function_lines : (P : ProgramTree) → IsAccepted P → (f : FunctionDefinition) → IsOneOf f P.functions → (ms : List Line) × LinesOfFunction size P f ms × (faults_among ms ≡ [])
 function_lines P a f m =
     let found = (a.1).found in
     let q : faults_among (ordered_after line_precedes [] found) ≡ [] = ap faults_among (sym (a.1).ordered) ∙ a.2 in
     let r = warnings_after [] found (warnings_alone (ordered_after line_precedes [] found) q) in
     lines_of_one P P.functions found (a.1).all (no_fault_among found r.1) f m
 
-pub body_names : (P : ProgramTree) → name_faults P ≡ [] → (f : FunctionDefinition) → Among f P.functions →
+pub body_names : (P : ProgramTree) → name_faults P ≡ [] → (f : FunctionDefinition) → IsOneOf f P.functions →
     expression_faults P (map (λ (q : Parameter). q.name) f.parameters) f.body ≡ []
 body_names P e f m =
     let types : List Fault = flat_map (λ (t : TypeDefinition). unknown_types (known_types P) t.body) P.types in

@@ -2,9 +2,9 @@
 use Rattle.std.proofs.Common.{◌≡◌, ℕ, suc, zero, List, [], ◌∷◌, map, Some, refl, sym, subst, inl, inr}
 use Rattle.std.specs.List.{AllByRecursion}
 use Rattle.xd_doc.specs.Document.{Document}
+use Rattle.xd_doc.specs.Members.{IsOneOf}
 use Rattle.xd_syntax.specs.Words.{main_word}
 use Rattle.xd_syntax.specs.Placed.{unplaced}
-use Rattle.xd_syntax.specs.Ways.{Among}
 use Rattle.xd_meaning.specs.FirstMatch.{first}
 use Rattle.xd_syntax.specs.Expression.{place_of_expression}
 use Rattle.xd_syntax.specs.Program.{Parameter, FunctionDefinition, ProgramTree, names_of, function_of}
@@ -20,14 +20,14 @@ use Rattle.xd_laws.proofs.NoFaults.{no_faults_of, no_line, function_among, funct
 use Rattle.xd_laws.proofs.SuitsLemmas.{parameters_suit}
 use Rattle.xd_laws.proofs.SafeValues.{CallsMeet, meets_more, value_meets}
 
-proper_among : (fs : List FunctionDefinition) → AllByRecursion IsProperFunction fs → (f : FunctionDefinition) → Among f fs → IsProperFunction f
+proper_among : (fs : List FunctionDefinition) → AllByRecursion IsProperFunction fs → (f : FunctionDefinition) → IsOneOf f fs → IsProperFunction f
 proper_among [] a f m = absurd m
 proper_among (g ∷ gs) a f (inl e) = subst IsProperFunction e a.0
 proper_among (g ∷ gs) a f (inr m) = proper_among gs a.1 f m
 
 -- the body of a function on values of its parameters' types, where calls are safe
 body_meets : (P : ProgramTree) → IsProperProgram P → IsSound P → IsAccepted P → (C : ℕ → List ℕ → List Document → Outcome Document) → CallsMeet P C →
-    (f : FunctionDefinition) → Among f P.functions → (ds : List Document) → AreValuesOf (names_of P) f.parameters ds → (n : ℕ) →
+    (f : FunctionDefinition) → IsOneOf f P.functions → (ds : List Document) → AreValuesOf (names_of P) f.parameters ds → (n : ℕ) →
     Meets (IsValueOf (names_of P) f.declared) (value_by (first (names_of P)) C n (bound f.parameters ds) f.body)
 body_meets P proper sound accepted C calls f m ds a n =
     let l = function_lines P accepted f m in

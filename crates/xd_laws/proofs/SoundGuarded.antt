@@ -3,6 +3,7 @@ use Rattle.std.proofs.Common.{◌≡◌, ℕ, ◌+◌, arith, Bool, true, false,
 use Rattle.std.specs.Str.{bytes_eq}
 use Rattle.std.proofs.lemmas.List.{length-map}
 use Rattle.xd_doc.proofs.Lists.{none_of}
+use Rattle.xd_doc.specs.Members.{IsOneOf}
 use Rattle.xd_syntax.specs.Words.{any_word}
 use Rattle.xd_syntax.specs.Tree.{Tree, Definitions, body, any_type}
 use Rattle.xd_syntax.specs.Placed.{PlacedTree, Empty_at, Text_at, Words_at, Name_at, Elem_at, Seq_at, Alt_at, Star_at, Plus_at, Opt_at, Val_at, unplaced}
@@ -12,7 +13,7 @@ use Rattle.xd_syntax.specs.RecursionFaults.{Use, not_tail, behind_type, top_uses
 use Rattle.xd_syntax.specs.declared.fault.Fault.{Fault}
 use Rattle.xd_laws.specs.Guarded.{Front, Step, Path, one, more, Guarded}
 use Rattle.xd_laws.specs.Guarded as R
-use Rattle.xd_syntax.proofs.Members.{Among, append_left, append_right, map_mem, flat_mem}
+use Rattle.xd_syntax.proofs.Members.{append_left, append_right, map_mem, flat_mem}
 use Rattle.xd_laws.proofs.Unfoldings.{same_word_eq}
 
 put_in-length : (f : Fault) (gs : List Fault) → length (put_in precedes f gs) ≡ length gs + 1
@@ -42,14 +43,14 @@ nothing_kept outside unguarded e =
     let c = length-map unguarded unguarded_fault in
     (none_of outside (omega arith), none_of unguarded (omega arith))
 
-pub keeps_none : {A : Type 0} (P : A → Type 0) {xs ys : List A} → Keeps P xs ys → ys ≡ [] → (x : A) → Among x xs → P x → ⊥
+pub keeps_none : {A : Type 0} (P : A → Type 0) {xs ys : List A} → Keeps P xs ys → ys ≡ [] → (x : A) → IsOneOf x xs → P x → ⊥
 keeps_none P all_seen e x m p = absurd m
 keeps_none P (kept q k) e x m p = cc
 keeps_none P (left_out n k) e x (inl i) p = n (subst P (sym i) p)
 keeps_none P (left_out n k) e x (inr m) p = keeps_none P k e x m p
 
 -- a use in front, as a use with a place
-front_use : (E : Definitions) (T : PlacedTree) (y : List ℕ) → Front E (unplaced T) y → (u : Use) × Among u (top_uses T) × (u.name ≡ y) × IsFrontUse E u
+front_use : (E : Definitions) (T : PlacedTree) (y : List ℕ) → Front E (unplaced T) y → (u : Use) × IsOneOf u (top_uses T) × (u.name ≡ y) × IsFrontUse E u
 front_use E (Empty_at p) y f = elim f [ ]
 front_use E (Text_at p) y f = elim f [ ]
 front_use E (Words_at p w) y f = elim f [ ]
@@ -80,27 +81,27 @@ pair_of t = (t.name, unplaced t.body)
 
 -- the definition of a name, as one with places
 pub placed_definition : (ts : List TypeDefinition) (x : List ℕ) (T : Tree) → body (map pair_of ts) x ≡ Some T →
-    (t : TypeDefinition) × Among t ts × (t.name ≡ x) × (placed_body ts x ≡ Some t.body) × (unplaced t.body ≡ T)
+    (t : TypeDefinition) × IsOneOf t ts × (t.name ≡ x) × (placed_body ts x ≡ Some t.body) × (unplaced t.body ≡ T)
 placed_definition [] x T e = cc
 placed_definition (t ∷ ts) x T e = go (bytes_eq t.name x) refl e (λ k. placed_definition ts x T k)
   where
     go : (b : Bool) → bytes_eq t.name x ≡ b → cond b (Some (unplaced t.body)) (body (map pair_of ts) x) ≡ Some T →
-        (body (map pair_of ts) x ≡ Some T → (s : TypeDefinition) × Among s ts × (s.name ≡ x) × (placed_body ts x ≡ Some s.body) × (unplaced s.body ≡ T)) →
-        (s : TypeDefinition) × Among s (t ∷ ts) × (s.name ≡ x) × (cond b (Some t.body) (placed_body ts x) ≡ Some s.body) × (unplaced s.body ≡ T)
+        (body (map pair_of ts) x ≡ Some T → (s : TypeDefinition) × IsOneOf s ts × (s.name ≡ x) × (placed_body ts x ≡ Some s.body) × (unplaced s.body ≡ T)) →
+        (s : TypeDefinition) × IsOneOf s (t ∷ ts) × (s.name ≡ x) × (cond b (Some t.body) (placed_body ts x) ≡ Some s.body) × (unplaced s.body ≡ T)
     go true q k rec = (t, inl refl, same_word_eq t.name x q, refl, cc)
     go false q k rec = let r = rec k in (r.0, inr r.1, r.2, r.3, r.4)
 
 -- a step in front, as a use of the program
 pub record UseFound (P : ProgramTree) (x y : List ℕ) : Type 0 where
   pub found : UseIn
-  pub listed : Among found (all_top_uses P.types)
+  pub listed : IsOneOf found (all_top_uses P.types)
   pub owner : found.owner ≡ x
   pub name : found.use_there.name ≡ y
   pub front : IsFrontUse (names_of P) found.use_there
   pub uses : UsesAtTop P (IsFrontUse (names_of P)) x y
 
-pub listed_use : (ts : List TypeDefinition) (t : TypeDefinition) (u : Use) → Among t ts → Among u (top_uses t.body) →
-    Among (let w : UseIn = record { owner = t.name; use_there = u } in w) (all_top_uses ts)
+pub listed_use : (ts : List TypeDefinition) (t : TypeDefinition) (u : Use) → IsOneOf t ts → IsOneOf u (top_uses t.body) →
+    IsOneOf (let w : UseIn = record { owner = t.name; use_there = u } in w) (all_top_uses ts)
 listed_use ts t u m k =
     flat_mem (λ (s : TypeDefinition). map (λ v. let w : UseIn = record { owner = s.name; use_there = v } in w) (top_uses s.body))
     (record { owner = t.name; use_there = u }) t ts m

@@ -9,6 +9,7 @@ use Rattle.std.specs.List.Sorted.{IsStrictlySortedBy}
 use Rattle.xd_doc.specs.Word.{is_word}
 use Rattle.xd_doc.specs.Classes.{class_has}
 use Rattle.xd_doc.specs.ClassForms.{IsClass}
+use Rattle.xd_doc.specs.Members.{IsOneOf}
 use Rattle.xd_doc.proofs.Joins.{join_empty-right}
 use Rattle.xd_syntax.specs.Words.{any_word}
 use Rattle.xd_syntax.specs.Tree.{Tree, Empty, Text, Name, Elem, Seq, Opt, Val, Definitions, body}
@@ -17,7 +18,7 @@ use Rattle.xd_syntax.specs.Expression.{Nothing, Variable, Matched, Clauses, no_c
 use Rattle.xd_syntax.specs.Program.{names_of}
 use Rattle.xd_syntax.specs.Proper.{IsProperProgram}
 use Rattle.xd_syntax.specs.Fits.{Fits, fits_empty, fits_text, fits_elem, fits_name, fits_seq, fits_no_turn, fits_turn, fits_absent, fits_present, fits_val}
-use Rattle.xd_syntax.specs.Ways.{Way, Among, unfoldings, IsWholeWay, Takes}
+use Rattle.xd_syntax.specs.Ways.{Way, unfoldings, IsWholeWay, Takes}
 use Rattle.xd_laws.specs.Guarded.{Guarded}
 use Rattle.xd_syntax.specs.RecursionFaults.{all_seen, IsSound}
 use Rattle.xd_syntax.specs.May.{Scope, clause_entry, Arrives, MayBind, May, parameters_scope}
@@ -279,22 +280,22 @@ t_not_rest e = let f : true ≡ false = ap (λ w. bytes_eq t w) e in cc
 n_not_t : n ≡ t → ⊥
 n_not_t e = let f : true ≡ false = ap (λ w. bytes_eq n w) e in cc
 
-rest_of_one : (q d : Document) → Among (bind rest d) (bind rest q ∷ []) → q ≡ d
+rest_of_one : (q d : Document) → IsOneOf (bind rest d) (bind rest q ∷ []) → q ≡ d
 rest_of_one q d (inl e) = same_document rest q d e
 rest_of_one q d (inr b) = absurd b
 
-rest_of_three : (a b q d : Document) → Among (bind rest d) (bind n a ∷ bind t b ∷ bind rest q ∷ []) → q ≡ d
+rest_of_three : (a b q d : Document) → IsOneOf (bind rest d) (bind n a ∷ bind t b ∷ bind rest q ∷ []) → q ≡ d
 rest_of_three a b q d (inl e) = absurd (other_word n rest a d n_not_rest e)
 rest_of_three a b q d (inr (inl e)) = absurd (other_word t rest b d t_not_rest e)
 rest_of_three a b q d (inr (inr h)) = rest_of_one q d h
 
-n_of_three : (a b q d : Document) → Among (bind n d) (bind n a ∷ bind t b ∷ bind rest q ∷ []) → a ≡ d
+n_of_three : (a b q d : Document) → IsOneOf (bind n d) (bind n a ∷ bind t b ∷ bind rest q ∷ []) → a ≡ d
 n_of_three a b q d (inl e) = same_document n a d e
 n_of_three a b q d (inr (inl e)) = absurd (other_word t n b d (λ f. n_not_t (sym f)) e)
 n_of_three a b q d (inr (inr (inl e))) = absurd (other_word rest n q d (λ f. n_not_rest (sym f)) e)
 n_of_three a b q d (inr (inr (inr h))) = absurd h
 
-t_of_three : (a b q d : Document) → Among (bind t d) (bind n a ∷ bind t b ∷ bind rest q ∷ []) → b ≡ d
+t_of_three : (a b q d : Document) → IsOneOf (bind t d) (bind n a ∷ bind t b ∷ bind rest q ∷ []) → b ≡ d
 t_of_three a b q d (inl e) = absurd (other_word n t a d n_not_t e)
 t_of_three a b q d (inr (inl e)) = same_document t b d e
 t_of_three a b q d (inr (inr (inl e))) = absurd (other_word rest t q d (λ f. t_not_rest (sym f)) e)
@@ -331,23 +332,23 @@ Persons d = Fits names persons d
 with_tel_rest : (earlier : List PlacedTree) (l : ℕ) (d : Document) → MayBind names Persons earlier (with_tel_at l) rest d → Fits names persons d
 with_tel_rest earlier l d h =
     let w = with_tel_whole h.0 h.1 h.3 in
-    let e : w.3 ≡ d = rest_of_three _ _ w.3 d (subst (Among (bind rest d)) w.5 h.4) in
+    let e : w.3 ≡ d = rest_of_three _ _ w.3 d (subst (IsOneOf (bind rest d)) w.5 h.4) in
     subst (Fits names persons) e (behind_number h.0 (h.2).1 w.0 w.1 w.2 w.3 w.4)
 
 with_tel_n : (earlier : List PlacedTree) (l : ℕ) (d : Document) → MayBind names Persons earlier (with_tel_at l) n d → (s : List ℕ) × (d ≡ element name (text s empty) empty)
 with_tel_n earlier l d h =
-    let w = with_tel_whole h.0 h.1 h.3 in (w.0, sym (n_of_three _ _ w.3 d (subst (Among (bind n d)) w.5 h.4)))
+    let w = with_tel_whole h.0 h.1 h.3 in (w.0, sym (n_of_three _ _ w.3 d (subst (IsOneOf (bind n d)) w.5 h.4)))
 
 with_tel_t : (earlier : List PlacedTree) (l : ℕ) (d : Document) → MayBind names Persons earlier (with_tel_at l) t d → (v : List ℕ) × (d ≡ with_number v empty)
 with_tel_t earlier l d h =
-    let w = with_tel_whole h.0 h.1 h.3 in (w.2, sym (t_of_three _ _ w.3 d (subst (Among (bind t d)) w.5 h.4)))
+    let w = with_tel_whole h.0 h.1 h.3 in (w.2, sym (t_of_three _ _ w.3 d (subst (IsOneOf (bind t d)) w.5 h.4)))
 
 -- what is left of a person that comes to the clause
 without_tel_rest : (earlier : List PlacedTree) (l : ℕ) (d : Document) → MayBind names Persons earlier (without_tel_at l) rest d →
     Fits names persons d ⊎ ((s : List ℕ) × (u : List ℕ) × (v : List ℕ) × (r : Document) × (d ≡ with_number v r) × Arrives names Persons earlier (person s u (with_number v r)))
 without_tel_rest earlier l d h =
     let w = without_tel_whole h.0 h.1 h.3 in
-    let e : w.2 ≡ d = rest_of_one w.2 d (subst (Among (bind rest d)) w.4 h.4) in
+    let e : w.2 ≡ d = rest_of_one w.2 d (subst (IsOneOf (bind rest d)) w.4 h.4) in
     elim (behind_person h.0 (h.2).1 w.0 w.1 w.2 w.3) [
       | inl f ↦ inl (subst (Fits names persons) e f)
       | inr k ↦ inr (w.0, w.1, k.0, k.1, sym e ∙ k.2, subst (Arrives names Persons earlier) (w.3 ∙ ap (person w.0 w.1) k.2) h.2)
@@ -524,7 +525,7 @@ number_misfits = (bound (without_tel_takes [] [] (with_number [] empty)), no_num
           h.0,
           (person_proper (with_number [] empty) number_proper, numbered_fits [] [] [] empty fits_no_turn, tt),
           h.1,
-          subst (Among (bind rest (with_number [] empty))) (sym w.4) (inl (ap (bind rest) q)),
+          subst (IsOneOf (bind rest (with_number [] empty))) (sym w.4) (inl (ap (bind rest) q)),
         )
 
 -- each document that the fault may carry begins with a telephone number

@@ -3,10 +3,11 @@ use Rattle.std.proofs.Common.{◌≡◌, ℕ, suc, zero, ◌+◌, ◌*◌, ◌�
 use Rattle.std.proofs.lemmas.List.{length-map}
 use Rattle.std.proofs.lemmas.Slice.Eq.{bytes_eq-Decides}
 use Rattle.xd_doc.specs.Document.{Document, empty, text, element, join, size}
+use Rattle.xd_doc.specs.Members.{IsOneOf}
 use Rattle.xd_doc.proofs.Joins.{join_empty-right}
 use Rattle.xd_syntax.specs.Tree.{Tree, Empty, Text, Words, Name, Elem, Seq, Alt, Star, Plus, Opt, Val, Definitions, body}
 use Rattle.xd_syntax.specs.Fits.{Fits}
-use Rattle.xd_syntax.specs.Ways.{Way, no_item_way, then_way, in_turn, item_count, turns, repetition, is_whole, ways_by, ways_of_definition, ways_of_name, ways_within, unfoldings, Takes, is_whole, unfoldings, Among}
+use Rattle.xd_syntax.specs.Ways.{Way, no_item_way, then_way, in_turn, item_count, turns, repetition, is_whole, ways_by, ways_of_definition, ways_of_name, ways_within, unfoldings, Takes, is_whole, unfoldings}
 use Rattle.xd_laws.specs.Guarded.{Front, Step, Path, one, more, Guarded, Defined}
 use Rattle.xd_laws.proofs.Documents.{HasItem}
 use Rattle.std.specs.Str.{bytes_eq}
@@ -22,12 +23,12 @@ same_word_eq a b h = (bytes_eq-Decides a b).0 h
 keys : Definitions → List (List ℕ)
 keys E = map (λ p. p.0) E
 
-defined_key : (E : Definitions) (x : List ℕ) → Defined E x → Among x (keys E)
+defined_key : (E : Definitions) (x : List ℕ) → Defined E x → IsOneOf x (keys E)
 unfolding keys
 defined_key [] x h = let e = h.1 in cc
 defined_key (p ∷ ps) x h = go (bytes_eq p.0 x) refl h.1 (λ d. defined_key ps x d)
   where
-    go : (b : Bool) → bytes_eq p.0 x ≡ b → cond b (Some p.1) (body ps x) ≡ Some h.0 → (Defined ps x → Among x (keys ps)) → Among x (keys (p ∷ ps))
+    go : (b : Bool) → bytes_eq p.0 x ≡ b → cond b (Some p.1) (body ps x) ≡ Some h.0 → (Defined ps x → IsOneOf x (keys ps)) → IsOneOf x (keys (p ∷ ps))
     go true e k rec = inl (same_word_eq p.0 x e)
     go false e k rec = inr (rec (h.0, k))
 
@@ -37,7 +38,7 @@ Trail E [] = Unit {0}
 Trail E (y ∷ []) = Defined E y
 Trail E (y ∷ (x ∷ V)) = Defined E y × Step E x y × Trail E (x ∷ V)
 
-trail_path : (E : Definitions) (x : List ℕ) (V : List (List ℕ)) → Trail E (x ∷ V) → (z : List ℕ) → Among z V → Path E z x
+trail_path : (E : Definitions) (x : List ℕ) (V : List (List ℕ)) → Trail E (x ∷ V) → (z : List ℕ) → IsOneOf z V → Path E z x
 trail_path E x [] t z m = absurd m
 trail_path E x (y ∷ V) t z (inl e) = subst (λ q. Path E q x) e (one t.1)
 trail_path E x (y ∷ V) t z (inr m) = more (trail_path E y V t.2 z m) t.1
@@ -47,7 +48,7 @@ trail_apart E g [] t = tt
 trail_apart E g (x ∷ []) t = (λ m. m, tt)
 trail_apart E g (x ∷ (y ∷ V)) t = (λ m. g x (trail_path E x (y ∷ V) t x m), trail_apart E g (y ∷ V) t.2)
 
-trail_defined : (E : Definitions) (V : List (List ℕ)) → Trail E V → (z : List ℕ) → Among z V → Defined E z
+trail_defined : (E : Definitions) (V : List (List ℕ)) → Trail E V → (z : List ℕ) → IsOneOf z V → Defined E z
 trail_defined E [] t z m = absurd m
 trail_defined E (x ∷ []) t z (inl e) = subst (Defined E) e t
 trail_defined E (x ∷ []) t z (inr m) = absurd m
@@ -84,7 +85,7 @@ pub rest_within : (a b d : Document) → join a b ≡ d → size b ≤ size d
 rest_within a b d e = let i = size_join a b in let j : size (join a b) ≡ size d = ap size e in omega arith
 
 turns_same : (E : Definitions) (T : Tree) (V W : Document → List Way) (s : ℕ) → ((d : Document) → size d ≤ s → V d ≡ W d) →
-    ((d : Document) (w : Way) → Among w (V d) → Good E T d w) → (k : ℕ) (d : Document) → size d ≤ s → turns V k d ≡ turns W k d
+    ((d : Document) (w : Way) → IsOneOf w (V d) → Good E T d w) → (k : ℕ) (d : Document) → size d ≤ s → turns V k d ≡ turns W k d
 turns_same E T V W s h good zero d l = refl
 turns_same E T V W s h good (suc k) d l =
     ap (λ xs. xs ++ no_item_way d ∷ [])
@@ -95,7 +96,7 @@ turns_same E T V W s h good (suc k) d l =
     (turns_same E T V W s h good k v.rest (omega arith)))
     ∙ ap (λ ws. flat_map (λ v. cond (ltb (item_count v.rest) (item_count d)) (map (then_way v) (turns W k v.rest)) []) ws) (h d l))
 
-in_turn_same : (V V' W W' : Document → List Way) (d : Document) → V d ≡ V' d → ((v : Way) → Among v (V d) → W v.rest ≡ W' v.rest) → in_turn V W d ≡ in_turn V' W' d
+in_turn_same : (V V' W W' : Document → List Way) (d : Document) → V d ≡ V' d → ((v : Way) → IsOneOf v (V d) → W v.rest ≡ W' v.rest) → in_turn V W d ≡ in_turn V' W' d
 in_turn_same V V' W W' d e h =
     flat_same (λ v. map (then_way v) (W v.rest)) (λ v. map (then_way v) (W' v.rest)) (V d) (λ v m. ap (map (then_way v)) (h v m))
     ∙ ap (flat_map (λ v. map (then_way v) (W' v.rest))) e
@@ -105,7 +106,7 @@ rest_below a b d e h =
     let i = size_join a b in let j : size (join a b) ≡ size d = ap size e in let k = size_some a h in omega arith
 
 module _ (E : Definitions) (n : ℕ) (N M : List ℕ → Document → List Way)
-    (good : (x : List ℕ) (d : Document) (w : Way) → Among w (N x d) → Good E (Name x) d w)
+    (good : (x : List ℕ) (d : Document) (w : Way) → IsOneOf w (N x d) → Good E (Name x) d w)
     (same : (V : List (List ℕ)) (x : List ℕ) → (Defined E x → Trail E (x ∷ V)) → length V ≤ length E → (d : Document) →
     size d * length E + length E ≤ n + length V → N x d ≡ M x d) where
   -- what stands after T, on the rest of a way of T
@@ -198,8 +199,8 @@ fits_takes E guarded T d f =
     let W = A.1 (A.0 + b) (omega arith) empty in
     let s : (size d + 1) * length E ≤ b = omega arith in
     let e = stable E guarded b (A.0 + b) (omega arith) T d s in
-    let m : Among W.0 (ways_within E (A.0 + b) T d) = subst (λ x. Among W.0 (ways_within E (A.0 + b) T x)) (join_empty-right d) W.1 in
-    (W.0, (subst (Among W.0) (sym e) m, ends W.0 W.3))
+    let m : IsOneOf W.0 (ways_within E (A.0 + b) T d) = subst (λ x. IsOneOf W.0 (ways_within E (A.0 + b) T x)) (join_empty-right d) W.1 in
+    (W.0, (subst (IsOneOf W.0) (sym e) m, ends W.0 W.3))
   where
     ends : (v : Way) → v.rest ≡ empty → is_whole v ≡ true
     ends v e = ap (λ x. is_whole (record v { rest = x })) e

@@ -2,9 +2,10 @@
 use Rattle.std.proofs.Common.{◌≡◌, ℕ, suc, zero, ltb, true, cond, List, [], ◌∷◌, map, Option, Some, None, refl, ap, subst, ◌∙◌, inl, inr}
 use Rattle.xd_doc.specs.Document.{Document, empty, text, element, join}
 use Rattle.xd_doc.specs.Classes.{LabelClass, TextClass, class_has}
+use Rattle.xd_doc.specs.Members.{IsOneOf}
 use Rattle.xd_doc.proofs.Joins.{join_assoc}
 use Rattle.xd_syntax.specs.Tree.{Tree, Empty, Text, Words, Name, Elem, Seq, Alt, Star, Plus, Opt, Val, Definitions, body}
-use Rattle.xd_syntax.specs.Ways.{Way, no_item_way, then_way, item_count, turns, repetition, is_whole, binding, ways_by, ways_of_definition, ways_of_name, ways_within, Among}
+use Rattle.xd_syntax.specs.Ways.{Way, no_item_way, then_way, item_count, turns, repetition, is_whole, binding, ways_by, ways_of_definition, ways_of_name, ways_within}
 use Rattle.xd_syntax.proofs.Members.{mem_append, mem_map, mem_flat, cond_true}
 use Rattle.xd_laws.proofs.WaysFit.{mem_in_turn, whole_none}
 
@@ -25,9 +26,9 @@ pub data IsWay (E : Definitions) : Tree → Document → Way → Type 0 where
   way_present : {T : Tree} {d : Document} {w : Way} → IsWay E T d w → IsWay E (Opt T) d w
   way_val : {x : List ℕ} {T : Tree} {d : Document} {v : Way} → IsWay E T d v → IsWay E (Val x T) d (binding x v)
 
-module _ (E : Definitions) (N : List ℕ → Document → List Way) (names : (x : List ℕ) (d : Document) (w : Way) → Among w (N x d) → IsWay E (Name x) d w) where
-  turns_shape : (T : Tree) (V : Document → List Way) → ((d : Document) (w : Way) → Among w (V d) → IsWay E T d w) →
-      (k : ℕ) (d : Document) (w : Way) → Among w (turns V k d) → IsWay E (Star T) d w
+module _ (E : Definitions) (N : List ℕ → Document → List Way) (names : (x : List ℕ) (d : Document) (w : Way) → IsOneOf w (N x d) → IsWay E (Name x) d w) where
+  turns_shape : (T : Tree) (V : Document → List Way) → ((d : Document) (w : Way) → IsOneOf w (V d) → IsWay E T d w) →
+      (k : ℕ) (d : Document) (w : Way) → IsOneOf w (turns V k d) → IsWay E (Star T) d w
   turns_shape T V each zero d w (inl e) = subst (IsWay E (Star T) d) e way_no_turn
   turns_shape T V each zero d w (inr h) = absurd h
   turns_shape T V each (suc k) d w h =
@@ -41,7 +42,7 @@ module _ (E : Definitions) (N : List ℕ → Document → List Way) (names : (x 
         | inr (inr b) ↦ absurd b
       ]
 
-  shape_by : (T : Tree) (d : Document) (w : Way) → Among w (ways_by N T d) → IsWay E T d w
+  shape_by : (T : Tree) (d : Document) (w : Way) → IsOneOf w (ways_by N T d) → IsWay E T d w
   shape_by Empty d w (inl e) = subst (IsWay E Empty d) e way_empty
   shape_by Empty d w (inr h) = absurd h
   shape_by Text empty w h = absurd h
@@ -82,16 +83,16 @@ module _ (E : Definitions) (N : List ℕ → Document → List Way) (names : (x 
       let r = mem_map (binding x) w (ways_by N T d) h in
       subst (IsWay E (Val x T) d) r.2 (way_val (shape_by T d r.0 r.1))
 
-shape_of_definition : (E : Definitions) (N : List ℕ → Document → List Way) → ((x : List ℕ) (d : Document) (w : Way) → Among w (N x d) → IsWay E (Name x) d w) →
-    (x : List ℕ) (o : Option Tree) → body E x ≡ o → (d : Document) (w : Way) → Among w (ways_of_definition (ways_by N) o d) → IsWay E (Name x) d w
+shape_of_definition : (E : Definitions) (N : List ℕ → Document → List Way) → ((x : List ℕ) (d : Document) (w : Way) → IsOneOf w (N x d) → IsWay E (Name x) d w) →
+    (x : List ℕ) (o : Option Tree) → body E x ≡ o → (d : Document) (w : Way) → IsOneOf w (ways_of_definition (ways_by N) o d) → IsWay E (Name x) d w
 shape_of_definition E N names x None e d w h = absurd h
 shape_of_definition E N names x (Some T) e d w h = way_name e (shape_by E N names T d w h)
 
-shape_of_name : (E : Definitions) (n : ℕ) (x : List ℕ) (d : Document) (w : Way) → Among w (ways_of_name E n x d) → IsWay E (Name x) d w
+shape_of_name : (E : Definitions) (n : ℕ) (x : List ℕ) (d : Document) (w : Way) → IsOneOf w (ways_of_name E n x d) → IsWay E (Name x) d w
 shape_of_name E zero x d w h = absurd h
 shape_of_name E (suc n) x d w h = shape_of_definition E (ways_of_name E n) (shape_of_name E n) x (body E x) refl d w h
 
-pub way_shape : (E : Definitions) (n : ℕ) (T : Tree) (d : Document) (w : Way) → Among w (ways_within E n T d) → IsWay E T d w
+pub way_shape : (E : Definitions) (n : ℕ) (T : Tree) (d : Document) (w : Way) → IsOneOf w (ways_within E n T d) → IsWay E T d w
 way_shape E n T d w h = shape_by E (ways_of_name E n) (shape_of_name E n) T d w h
 
 then_join : (v w : Way) (d : Document) → join v.taken v.rest ≡ d → join w.taken w.rest ≡ v.rest → join (then_way v w).taken (then_way v w).rest ≡ d

@@ -2,10 +2,11 @@
 use Rattle.std.proofs.Common.{◌≡◌, ℕ, suc, zero, ◌<◌, ltb, ltb-true, arith, true, cond, List, [], ◌∷◌, map, Option, Some, None, refl, ap, sym, subst, ◌∙◌, inl, inr}
 use Rattle.xd_doc.specs.Document.{Document, empty, text, element, join}
 use Rattle.xd_doc.specs.Classes.{LabelClass, class_has}
+use Rattle.xd_doc.specs.Members.{IsOneOf}
 use Rattle.xd_doc.proofs.Joins.{join_empty-right, join_assoc}
 use Rattle.xd_syntax.specs.Tree.{Tree, Empty, Text, Words, Name, Elem, Seq, Alt, Star, Plus, Opt, Val, Definitions, body}
 use Rattle.xd_syntax.specs.Fits.{Fits}
-use Rattle.xd_syntax.specs.Ways.{Way, no_item_way, then_way, in_turn, item_count, turns, repetition, is_whole, binding, ways_by, ways_of_definition, ways_of_name, ways_within, Among}
+use Rattle.xd_syntax.specs.Ways.{Way, no_item_way, then_way, in_turn, item_count, turns, repetition, is_whole, binding, ways_by, ways_of_definition, ways_of_name, ways_within}
 use Rattle.xd_laws.proofs.Documents.{HasItem, has}
 use Rattle.xd_syntax.specs.Fits as F
 use Rattle.xd_syntax.proofs.Members.{mem_append, mem_map, mem_flat, cond_true}
@@ -14,7 +15,7 @@ use Rattle.xd_syntax.proofs.Members.{mem_append, mem_map, mem_flat, cond_true}
 abbrev pub Good : Definitions → Tree → Document → Way → Type 0
 Good E T d w = (join w.taken w.rest ≡ d) × Fits E T w.taken
 
-pub mem_in_turn : (V W : Document → List Way) (d : Document) (w : Way) → Among w (in_turn V W d) → (v : Way) × (u : Way) × Among v (V d) × Among u (W v.rest) × (then_way v u ≡ w)
+pub mem_in_turn : (V W : Document → List Way) (d : Document) (w : Way) → IsOneOf w (in_turn V W d) → (v : Way) × (u : Way) × IsOneOf v (V d) × IsOneOf u (W v.rest) × (then_way v u ≡ w)
 mem_in_turn V W d w h =
     let r = mem_flat (λ v. map (then_way v) (W v.rest)) w (V d) h in
     let q = mem_map (then_way r.0) w (W (r.0).rest) r.2 in
@@ -38,15 +39,15 @@ nothing_good : (E : Definitions) (T : Tree) (d : Document) (w : Way) → Fits E 
 nothing_good E T d w f e = subst (Good E T d) e (refl, f)
 
 elem_good : (E : Definitions) (c : LabelClass) (T : Tree) (l : List ℕ) (k d : Document) (v w : Way) → class_has c l ≡ true → v.rest ≡ empty → Good E T k v →
-    Among w (record { bindings = v.bindings; taken = element l k empty; rest = d } ∷ []) → Good E (Elem c T) (element l k d) w
+    IsOneOf w (record { bindings = v.bindings; taken = element l k empty; rest = d } ∷ []) → Good E (Elem c T) (element l k d) w
 elem_good E c T l k d v w a e g (inl q) =
     let i : v.taken ≡ k = sym (join_empty-right v.taken) ∙ ap (join v.taken) (sym e) ∙ g.0 in
     subst (Good E (Elem c T) (element l k d)) q (refl, F.fits_elem a (subst (Fits E T) i g.1))
 elem_good E c T l k d v w a e g (inr b) = absurd b
 
-module _ (E : Definitions) (N : List ℕ → Document → List Way) (names : (x : List ℕ) (d : Document) (w : Way) → Among w (N x d) → Good E (Name x) d w) where
-  turns_good : (T : Tree) (V : Document → List Way) (good : (d : Document) (w : Way) → Among w (V d) → Good E T d w)
-      (k : ℕ) (d : Document) (w : Way) → Among w (turns V k d) → Good E (Star T) d w
+module _ (E : Definitions) (N : List ℕ → Document → List Way) (names : (x : List ℕ) (d : Document) (w : Way) → IsOneOf w (N x d) → Good E (Name x) d w) where
+  turns_good : (T : Tree) (V : Document → List Way) (good : (d : Document) (w : Way) → IsOneOf w (V d) → Good E T d w)
+      (k : ℕ) (d : Document) (w : Way) → IsOneOf w (turns V k d) → Good E (Star T) d w
   turns_good T V good zero d w (inl e) = nothing_good E (Star T) d w F.fits_no_turn e
   turns_good T V good zero d w (inr h) = absurd h
   turns_good T V good (suc k) d w h =
@@ -66,7 +67,7 @@ module _ (E : Definitions) (N : List ℕ → Document → List Way) (names : (x 
         | inr (inr b) ↦ absurd b
       ]
 
-  pub sound_by : (T : Tree) (d : Document) (w : Way) → Among w (ways_by N T d) → Good E T d w
+  pub sound_by : (T : Tree) (d : Document) (w : Way) → IsOneOf w (ways_by N T d) → Good E T d w
   sound_by Empty d w (inl e) = nothing_good E Empty d w F.fits_empty e
   sound_by Empty d w (inr h) = absurd h
   sound_by Text empty w h = absurd h
@@ -119,14 +120,14 @@ module _ (E : Definitions) (N : List ℕ → Document → List Way) (names : (x 
       subst (Good E (Val x T) d) r.2 (g.0, F.fits_val g.1)
 
 -- what is ways_of_name by a definition
-body_good : (E : Definitions) (N : List ℕ → Document → List Way) → ((x : List ℕ) (d : Document) (w : Way) → Among w (N x d) → Good E (Name x) d w) →
-    (x : List ℕ) (o : Option Tree) → body E x ≡ o → (d : Document) (w : Way) → Among w (ways_of_definition (ways_by N) o d) → Good E (Name x) d w
+body_good : (E : Definitions) (N : List ℕ → Document → List Way) → ((x : List ℕ) (d : Document) (w : Way) → IsOneOf w (N x d) → Good E (Name x) d w) →
+    (x : List ℕ) (o : Option Tree) → body E x ≡ o → (d : Document) (w : Way) → IsOneOf w (ways_of_definition (ways_by N) o d) → Good E (Name x) d w
 body_good E N names x None e d w h = absurd h
 body_good E N names x (Some T) e d w h = let g = sound_by E N names T d w h in (g.0, F.fits_name e g.1)
 
-pub named_good : (E : Definitions) (n : ℕ) (x : List ℕ) (d : Document) (w : Way) → Among w (ways_of_name E n x d) → Good E (Name x) d w
+pub named_good : (E : Definitions) (n : ℕ) (x : List ℕ) (d : Document) (w : Way) → IsOneOf w (ways_of_name E n x d) → Good E (Name x) d w
 named_good E zero x d w h = absurd h
 named_good E (suc n) x d w h = body_good E (ways_of_name E n) (named_good E n) x (body E x) refl d w h
 
-pub sound : (E : Definitions) (n : ℕ) (T : Tree) (d : Document) (w : Way) → Among w (ways_within E n T d) → Good E T d w
+pub sound : (E : Definitions) (n : ℕ) (T : Tree) (d : Document) (w : Way) → IsOneOf w (ways_within E n T d) → Good E T d w
 sound E n T d w h = sound_by E (ways_of_name E n) (named_good E n) T d w h

@@ -4,7 +4,7 @@ use Rattle.xd_doc.specs.Document.{Document, empty, text, element}
 use Rattle.xd_doc.specs.Classes.{LabelClass, TextClass}
 use Rattle.xd_syntax.specs.Tree.{Tree, Empty, Text, Words, Name, Elem, Seq, Alt, Star, Plus, Opt, Val, Definitions, body}
 use Rattle.xd_syntax.specs.Fits.{Fits}
-use Rattle.xd_meaning.specs.FitsWithin.{IsOneOf, Repeats, no_turn, one_turn, IsOneElement, fits_by, fits_definition, fits_name_within, FitsWithin}
+use Rattle.xd_meaning.specs.FitsWithin.{IsTextIn, Repeats, no_turn, one_turn, IsOneElement, fits_by, fits_definition, fits_name_within, FitsWithin}
 use Rattle.xd_syntax.specs.Fits as F
 use Rattle.xd_laws.proofs.FitsLaws.{text_fits}
 
@@ -83,7 +83,7 @@ elem_fits E c T P h empty p = absurd p
 elem_fits E c T P h (text s d) p = absurd p
 elem_fits E c T P h (element l k d) p = subst (λ r. Fits E (Elem c T) (element l k r)) (sym p.0) (F.fits_elem p.1 (h k p.2))
 
-pub words_fit : (E : Definitions) (w : TextClass) (d : Document) → IsOneOf w d → Fits E (Words w) d
+pub words_fit : (E : Definitions) (w : TextClass) (d : Document) → IsTextIn w d → Fits E (Words w) d
 words_fit E w empty p = absurd p
 words_fit E w (text s d) p = subst (λ r. Fits E (Words w) (text s r)) (sym p.0) (F.fits_words p.1)
 words_fit E w (element l k d) p = absurd p

@@ -4,15 +4,15 @@ use Rattle.std.specs.Str.{bytes_eq}
 use Rattle.std.specs.List.{filter}
 use Rattle.std.proofs.lemmas.Bool.{or_left, or_right}
 use Rattle.xd_doc.proofs.Lists.{append_none_parts}
+use Rattle.xd_doc.specs.Members.{IsOneOf}
 use Rattle.xd_syntax.specs.Words.{has_word}
-use Rattle.xd_syntax.specs.Ways.{Among}
 use Rattle.xd_laws.proofs.Unfoldings.{same_word_eq}
 
 pub either : (a b : Bool) → (a || b) ≡ true → (a ≡ true) ⊎ ((a ≡ false) × (b ≡ true))
 either true b e = inl refl
 either false b e = inr (refl, e)
 
-pub nothing_each : {A B : Type 0} (f : A → List B) (xs : List A) → flat_map f xs ≡ [] → (x : A) → Among x xs → f x ≡ []
+pub nothing_each : {A B : Type 0} (f : A → List B) (xs : List A) → flat_map f xs ≡ [] → (x : A) → IsOneOf x xs → f x ≡ []
 nothing_each f [] e x m = absurd m
 nothing_each f (y ∷ ys) e x (inl i) = ap f (sym i) ∙ (append_none_parts (f y) (flat_map f ys) e).0
 nothing_each f (y ∷ ys) e x (inr m) = nothing_each f ys (append_none_parts (f y) (flat_map f ys) e).1 x m

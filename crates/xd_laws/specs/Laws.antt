@@ -2,11 +2,12 @@
 use Rattle.std.specs.Prelude.{◌≡◌, ℕ, ◌+◌, ◌≤◌, ◌↔◌, true, false, ◌⊎◌, List, [], map, length, Some}
 use Rattle.std.specs.List.{AllByRecursion}
 use Rattle.xd_doc.specs.Document.{Document, empty, has_item}
+use Rattle.xd_doc.specs.Members.{IsOneOf}
 use Rattle.xd_syntax.specs.Tree.{Tree, Elem, Seq, Alt, Star, Plus, Opt, Val, Definitions}
 use Rattle.xd_syntax.specs.Fits.{Fits}
 use Rattle.xd_meaning.specs.FitsWithin.{FitsWithin}
 use Rattle.xd_syntax.specs.Placed.{PlacedTree, unplaced}
-use Rattle.xd_syntax.specs.Ways.{Among, ways, ways_within, unfoldings, Takes}
+use Rattle.xd_syntax.specs.Ways.{ways, ways_within, unfoldings, Takes}
 use Rattle.xd_meaning.specs.FirstMatch.{first}
 use Rattle.xd_syntax.specs.NameFaults.{linearity_faults}
 use Rattle.xd_meaning.specs.Bindings.{variables_of, first_bindings}
@@ -53,7 +54,7 @@ FitsIsWithinSome = (E : Definitions) (T : Tree) (d : Document) → Fits E T d �
 -- a document with an item fits a type exactly where it begins as one of the type's heads
 abbrev pub HeadsDecide : Type 0
 HeadsDecide = (P : ProgramTree) → IsSound P → (T : Tree) (d : Document) → has_item d ≡ true →
-    Fits (names_of P) T d ↔ ((h : Head Tree) × Among h (heads (names_of P) T) × Begins (names_of P) h d)
+    Fits (names_of P) T d ↔ ((h : Head Tree) × IsOneOf h (heads (names_of P) T) × Begins (names_of P) h d)
 
 -- the empty document fits a type exactly where the type can be empty
 abbrev pub EmptyDecides : Type 0

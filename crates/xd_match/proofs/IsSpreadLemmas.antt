@@ -2,13 +2,13 @@
 use Rattle.std.proofs.Common.{ℕ, ◌≡◌, ◌⊎◌, ◌+◌, ◌<◌, Bool, true, false, List, [], ◌∷◌, ◌++◌, length, get_or, set, arith, refl, sym, ap, subst, ◌∙◌, inl, inr}
 use Rattle.std.proofs.lemmas.List.{get_or-set_same, get_or-set_other, get_or_past, get_or_read, length_push}
 use Rattle.std.proofs.lemmas.Bool.{cases_eq, cases_lt}
+use Rattle.xd_doc.specs.Members.{IsOneOf}
 use Rattle.xd_auto.specs.declared.auto.State.{State}
 use Rattle.xd_auto.specs.Automaton.{Automaton, IsState, moves_at, state_number}
 use Rattle.xd_auto.proofs.Closed.{state_of_number}
 use Rattle.xd_auto.specs.Leading.{label_ends, text_ends}
 use Rattle.xd_auto.specs.declared.leading.Ends.{Ends}
 use Rattle.xd_auto.proofs.EndsLemmas.{ends_are}
-use Rattle.xd_syntax.specs.Ways.{Among}
 use Rattle.xd_sound.specs.Emptiness.{is_marked}
 use Rattle.xd_sound.specs.Graph.{HasEdge, successors}
 use Rattle.xd_syntax.proofs.Members.{mem_append, append_left, append_right}
@@ -39,7 +39,7 @@ pub lead_from : (a : Automaton) (R Q : State → Type 0) → ((s : State) → R 
 lead_from a R Q f s e = record { texts = all_lead text_ends R Q f (moves_at a s).texts _ e.texts; labels = all_lead label_ends R Q f (moves_at a s).labels _ e.labels }
 
 pub spread_one : (g : List (List ℕ)) (seeds : List ℕ) (mixed : List Bool) (waiting before : List ℕ) (i : ℕ) → before ≡ waiting ++ i ∷ [] → IsSpread g seeds mixed before → i < length g
-spread_one g seeds mixed waiting before i e s = s.within i (subst (Among i) (sym e) (among_one i waiting))
+spread_one g seeds mixed waiting before i e s = s.within i (subst (IsOneOf i) (sym e) (among_one i waiting))
 
 -- a node that is marked already needs no visit
 pub spread_marked : (g : List (List ℕ)) (seeds : List ℕ) (mixed : List Bool) (waiting before : List ℕ) (i : ℕ) → before ≡ waiting ++ i ∷ [] → IsSpread g seeds mixed before →
@@ -47,11 +47,11 @@ pub spread_marked : (g : List (List ℕ)) (seeds : List ℕ) (mixed : List Bool)
 spread_marked g seeds mixed waiting before i e s marked = record {
   seeded = λ j m. elim (s.seeded j m) [ inl a ↦ inl a | inr a ↦ left j a ];
   edges = λ v w m k. elim (s.edges v w m k) [ inl a ↦ inl a | inr a ↦ left w a ];
-  within = λ j m. s.within j (subst (Among j) (sym e) (append_left j waiting (i ∷ []) m));
+  within = λ j m. s.within j (subst (IsOneOf j) (sym e) (append_left j waiting (i ∷ []) m));
 }
   where
-    left : (j : ℕ) → Among j before → (is_marked mixed j ≡ true) ⊎ Among j waiting
-    left j a = elim (mem_append j waiting (i ∷ []) (subst (Among j) e a)) [
+    left : (j : ℕ) → IsOneOf j before → (is_marked mixed j ≡ true) ⊎ IsOneOf j waiting
+    left j a = elim (mem_append j waiting (i ∷ []) (subst (IsOneOf j) e a)) [
       | inl b ↦ inr b
       | inr (inl q) ↦ inl (subst (λ k. is_marked mixed k ≡ true) q marked)
       | inr (inr f) ↦ absurd f
@@ -67,7 +67,7 @@ spread_more g seeds mixed waiting before i closed count e s = record {
     | inr q ↦ elim (s.edges v w m (sym (get_or-set_other mixed i v true false q) ∙ k)) [ inl a ↦ inl (still w a) | inr a ↦ left w a ]
   ];
   within = λ j m. elim (mem_append j waiting (successors g i) m) [
-    | inl a ↦ s.within j (subst (Among j) (sym e) (append_left j waiting (i ∷ []) a))
+    | inl a ↦ s.within j (subst (IsOneOf j) (sym e) (append_left j waiting (i ∷ []) a))
     | inr a ↦ closed i j a
   ];
 }
@@ -81,8 +81,8 @@ spread_more g seeds mixed waiting before i closed count e s = record {
     still : (j : ℕ) → is_marked mixed j ≡ true → is_marked (set mixed i true) j ≡ true
     still j a = elim (cases_eq j i) [ inl q ↦ now j q | inr q ↦ get_or-set_other mixed i j true false q ∙ a ]
 
-    left : (j : ℕ) → Among j before → (is_marked (set mixed i true) j ≡ true) ⊎ Among j (waiting ++ successors g i)
-    left j a = elim (mem_append j waiting (i ∷ []) (subst (Among j) e a)) [
+    left : (j : ℕ) → IsOneOf j before → (is_marked (set mixed i true) j ≡ true) ⊎ IsOneOf j (waiting ++ successors g i)
+    left j a = elim (mem_append j waiting (i ∷ []) (subst (IsOneOf j) e a)) [
       | inl b ↦ inr (append_left j waiting (successors g i) b)
       | inr (inl q) ↦ inl (now j (sym q))
       | inr (inr f) ↦ absurd f
@@ -92,8 +92,8 @@ spread_more g seeds mixed waiting before i closed count e s = record {
 pub record AreSeeded (a : Automaton) (k : Marking) (mixed : List Bool) (waiting : List ℕ) (n : ℕ) : Type 0 where
   pub count : length mixed ≡ n
   pub none : (i : ℕ) → is_marked mixed i ≡ false
-  pub even : (s : State) → state_number s < n → Among (state_number s) waiting ⊎ IsEven a k s
-  pub within : (i : ℕ) → Among i waiting → i < n
+  pub even : (s : State) → state_number s < n → IsOneOf (state_number s) waiting ⊎ IsEven a k s
+  pub within : (i : ℕ) → IsOneOf i waiting → i < n
 
 pub seeded_waits : (a : Automaton) (k : Marking) (mixed : List Bool) (waiting : List ℕ) (n : ℕ) → AreSeeded a k mixed waiting n → AreSeeded a k (mixed ++ false ∷ []) (waiting ++ n ∷ []) (n + 1)
 seeded_waits a k mixed waiting n h = record {
@@ -126,7 +126,7 @@ seeded_spread a k g mixed waiting n e h = record {
 }
 
 no_edge : (g : List (List ℕ)) (v w : ℕ) → HasEdge g v w → v < length g
-no_edge g v w m = elim (cases_lt v (length g)) [ inl l ↦ l | inr l ↦ absurd (subst (Among w) (get_or_past g v [] l) m) ]
+no_edge g v w m = elim (cases_lt v (length g)) [ inl l ↦ l | inr l ↦ absurd (subst (IsOneOf w) (get_or_past g v [] l) m) ]
 
 -- a state without a mark is even, and its moves lead to such states
 pub are_tails : (a : Automaton) (k : Marking) (g : List (List ℕ)) (seeds : List ℕ) (old mixed : List Bool) → AreBehind a g → AreSeeded a k old seeds (length a) → length mixed ≡ length old →

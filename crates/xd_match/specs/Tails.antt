@@ -2,6 +2,7 @@
 -- contents to any.
 use Rattle.std.specs.Prelude.{◌≡◌, ◌⊎◌, ℕ, ◌<◌, Bool, true, false, List, [], ◌∷◌, length, get_or}
 use Rattle.std.specs.Option.{IfSome}
+use Rattle.xd_doc.specs.Members.{IsOneOf}
 use Rattle.xd_auto.specs.declared.auto.State.{State}
 use Rattle.xd_auto.specs.declared.auto.LabelMove.{LabelMove}
 use Rattle.xd_auto.specs.Automaton.{Automaton, IsState, moves_at, state_number}
@@ -10,7 +11,6 @@ use Rattle.xd_auto.specs.declared.leading.Ends.{Ends}
 use Rattle.xd_auto.specs.declared.kind.MoveKind.{MoveKind}
 use Rattle.xd_auto.specs.declared.kind.MoveKind.TheVariants.{Label, Text}
 use Rattle.xd_sound.specs.Graph.{HasEdge}
-use Rattle.xd_syntax.specs.Ways.{Among}
 use Rattle.xd_sound.specs.Emptiness.{is_marked}
 use Rattle.xd_patterns.specs.Marked.{Marking, MoveMarks, marks_at}
 
@@ -74,6 +74,6 @@ pub record AreBehind (a : Automaton) (g : List (List ℕ)) : Type 0 where
 
 -- each seed, and each node that an edge leads to from a marked one, is marked or waits
 pub record IsSpread (g : List (List ℕ)) (seeds : List ℕ) (mixed : List Bool) (waiting : List ℕ) : Type 0 where
-  pub seeded : (i : ℕ) → Among i seeds → (is_marked mixed i ≡ true) ⊎ Among i waiting
-  pub edges : (v w : ℕ) → HasEdge g v w → is_marked mixed v ≡ true → (is_marked mixed w ≡ true) ⊎ Among w waiting
-  pub within : (i : ℕ) → Among i waiting → i < length g
+  pub seeded : (i : ℕ) → IsOneOf i seeds → (is_marked mixed i ≡ true) ⊎ IsOneOf i waiting
+  pub edges : (v w : ℕ) → HasEdge g v w → is_marked mixed v ≡ true → (is_marked mixed w ≡ true) ⊎ IsOneOf w waiting
+  pub within : (i : ℕ) → IsOneOf i waiting → i < length g

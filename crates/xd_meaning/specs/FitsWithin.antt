@@ -16,10 +16,10 @@ IsOneText empty = ⊥
 IsOneText (text s r) = r ≡ empty
 IsOneText (element l c r) = ⊥
 
-abbrev pub IsOneOf : TextClass → Document → Type 0
-IsOneOf w empty = ⊥
-IsOneOf w (text s r) = (r ≡ empty) × (class_has w s ≡ true)
-IsOneOf w (element l c r) = ⊥
+abbrev pub IsTextIn : TextClass → Document → Type 0
+IsTextIn w empty = ⊥
+IsTextIn w (text s r) = (r ≡ empty) × (class_has w s ≡ true)
+IsTextIn w (element l c r) = ⊥
 
 abbrev pub IsOneElement : LabelClass → (Document → Type 0) → Document → Type 0
 IsOneElement k P empty = ⊥
@@ -30,7 +30,7 @@ IsOneElement k P (element l c r) = (r ≡ empty) × (class_has k l ≡ true) × 
 abbrev pub fits_by : (List ℕ → Document → Type 0) → Tree → Document → Type 0
 fits_by N Empty d = d ≡ empty
 fits_by N Text d = IsOneText d
-fits_by N (Words w) d = IsOneOf w d
+fits_by N (Words w) d = IsTextIn w d
 fits_by N (Name x) d = N x d
 fits_by N (Elem c T) d = IsOneElement c (fits_by N T) d
 fits_by N (Seq T U) d = Split (fits_by N T) (fits_by N U) d

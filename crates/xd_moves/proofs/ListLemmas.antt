@@ -6,7 +6,7 @@ use Rattle.std.specs.Cmp.Lexicographic.{pointwise}
 use Rattle.std.specs.List.{list_any, slice_get}
 use Rattle.std.specs.Prelude.{if◌then◌else◌, Vec}
 use Rattle.xd_doc.proofs.SortedNames.{is_same}
-use Rattle.xd_syntax.specs.Ways.{Among}
+use Rattle.xd_doc.specs.Members.{IsOneOf}
 use Rattle.xd_syntax.proofs.Members.{mem_append}
 use Rattle.xd_syntax.proofs.Words.{got_among}
 use Rattle.xd_moves.specs.Lists.{lists_of, AddsList, StandOnce, KeepsLists, HasNumber}
@@ -29,8 +29,8 @@ lists_then a b c k l = record { more = k.more ++ l.more; grown = l.grown ∙ ap 
 pub one_number : (ls : List (List ℕ)) → StandOnce ls → (xs : List ℕ) (m n : ℕ) → HasNumber ls xs m → HasNumber ls xs n → m ≡ n
 one_number [] s xs m n h k = cc
 one_number (l ∷ ls) s xs zero zero h k = refl
-one_number (l ∷ ls) s xs zero (suc n) h k = let e : xs ≡ l = cc in absurd (s.0 (subst (λ q. Among q ls) e (got_among ls n xs k)))
-one_number (l ∷ ls) s xs (suc m) zero h k = let e : xs ≡ l = cc in absurd (s.0 (subst (λ q. Among q ls) e (got_among ls m xs h)))
+one_number (l ∷ ls) s xs zero (suc n) h k = let e : xs ≡ l = cc in absurd (s.0 (subst (λ q. IsOneOf q ls) e (got_among ls n xs k)))
+one_number (l ∷ ls) s xs (suc m) zero h k = let e : xs ≡ l = cc in absurd (s.0 (subst (λ q. IsOneOf q ls) e (got_among ls m xs h)))
 one_number (l ∷ ls) s xs (suc m) (suc n) h k = ap suc (one_number ls s.1 xs m n h k)
 
 -- a number is that of one list
@@ -63,7 +63,7 @@ module _ {A : Type 0} where
   items_push [] v = refl
   items_push (w ∷ vs) v = ap (λ ls. w.items ∷ ls) (items_push vs v)
 
-  among_any : (v : Vec ℕ A) (vs : List (Vec ℕ A)) → Among v.items (lists_of vs) → list_any (λ w. pointwise nat_eq v.items w.items) vs ≡ true
+  among_any : (v : Vec ℕ A) (vs : List (Vec ℕ A)) → IsOneOf v.items (lists_of vs) → list_any (λ w. pointwise nat_eq v.items w.items) vs ≡ true
   among_any v [] m = absurd m
   among_any v (w ∷ vs) (inl e) = let q : pointwise nat_eq v.items w.items ≡ true = subst (λ ys. pointwise nat_eq v.items ys ≡ true) (sym e) (is_same v.items) in rw q refl
   among_any v (w ∷ vs) (inr m) = go (pointwise nat_eq v.items w.items) (among_any v vs m)
@@ -72,7 +72,7 @@ module _ {A : Type 0} where
       go true k = refl
       go false k = k
 
-once_push : (ls : List (List ℕ)) (xs : List ℕ) → StandOnce ls → (Among xs ls → ⊥) → StandOnce (ls ++ xs ∷ [])
+once_push : (ls : List (List ℕ)) (xs : List ℕ) → StandOnce ls → (IsOneOf xs ls → ⊥) → StandOnce (ls ++ xs ∷ [])
 once_push [] xs n h = (λ m. m, tt)
 once_push (l ∷ ls) xs n h =
     (λ m. elim (mem_append l ls (xs ∷ []) m) [ inl a ↦ n.0 a | inr (inl e) ↦ h (inl (sym e)) | inr (inr b) ↦ b ], once_push ls xs n.1 (λ m. h (inr m)))

@@ -1,7 +1,7 @@
 -- Lists by their numbers.
 use Rattle.std.specs.Prelude.{◌≡◌, ℕ, ◌+◌, ◌<◌, ◌⊎◌, List, [], ◌∷◌, ◌++◌, length, Some, Vec}
 use Rattle.std.specs.List.{slice_get}
-use Rattle.xd_syntax.specs.Ways.{Among}
+use Rattle.xd_doc.specs.Members.{IsOneOf}
 
 -- the lists that these vectors hold
 abbrev pub lists_of : {A : Type 0} → List (Vec ℕ A) → List (List ℕ)
@@ -11,7 +11,7 @@ lists_of (v ∷ vs) = v.items ∷ lists_of vs
 -- none stands twice
 abbrev pub StandOnce : List (List ℕ) → Type 0
 StandOnce [] = Unit {0}
-StandOnce (l ∷ ls) = (Among l ls → ⊥) × StandOnce ls
+StandOnce (l ∷ ls) = (IsOneOf l ls → ⊥) × StandOnce ls
 
 -- old lists stand where they stood
 pub record KeepsLists (old new : List (List ℕ)) : Type 0 where

@@ -7,7 +7,7 @@ use Rattle.xd_doc.specs.Classes.{LabelClass, TextClass, class_has}
 use Rattle.xd_doc.proofs.Bools.{or_cases}
 use Rattle.xd_syntax.specs.Tree.{Tree, Empty, Text, Words, Name, Elem, Seq, Alt, Star, Plus, Opt, Val}
 use Rattle.xd_syntax.specs.Fits.{Split}
-use Rattle.xd_meaning.specs.FitsWithin.{Repeats, no_turn, one_turn, IsOneText, IsOneOf, IsOneElement}
+use Rattle.xd_meaning.specs.FitsWithin.{Repeats, no_turn, one_turn, IsOneText, IsTextIn, IsOneElement}
 use Rattle.xd_same_types.specs.Same.{Meaning, FitsAs}
 use Rattle.xd_same_types.proofs.Splits.{breadth_less, split_map, rep_map}
 
@@ -107,7 +107,7 @@ text_tests empty = (λ e. absurd (cc), λ f. absurd f)
 text_tests (text s r) = none_is r
 text_tests (element l c r) = (λ e. absurd (cc), λ f. absurd f)
 
-words_tests : (w : TextClass) (d : Document) → (words_test w d ≡ true) ↔ IsOneOf w d
+words_tests : (w : TextClass) (d : Document) → (words_test w d ≡ true) ↔ IsTextIn w d
 words_tests w empty = (λ e. absurd (cc), λ f. absurd f)
 words_tests w (text s r) = (
   λ e. let h = and_parts (not (has_item r)) (class_has w s) e in ((none_is r).0 h.0, h.1),

@@ -3,7 +3,7 @@
 use Rattle.std.proofs.Common.{◌≡◌, List, [], ◌∷◌, ◌++◌, map, flat_map, Option, Some, None, refl, ap, sym, subst, ◌∙◌, inl, inr}
 use Rattle.std.proofs.lemmas.Grind.{flat_map-append}
 use Rattle.xd_doc.proofs.Lists.{map_append}
-use Rattle.xd_syntax.specs.Ways.{Among}
+use Rattle.xd_doc.specs.Members.{IsOneOf}
 use Rattle.xd_pattern_runs.specs.Alike.{Holding, or_then, pick, Alike}
 use Rattle.xd_syntax.proofs.Members.{mem_append, append_left, append_right, mem_flat, flat_mem, mem_map, map_mem}
 
@@ -43,7 +43,7 @@ pub pick_map : {A B : Type 0} (f : B → Option Holding) (g : A → B) (L : List
 pick_map f g [] = refl
 pick_map f g (x ∷ L) = ap (or_then (f (g x))) (pick_map f g L)
 
-members_append : {A : Type 0} (L M L' M' : List A) → ((x : A) → Among x L → Among x L') → ((x : A) → Among x M → Among x M') → (x : A) → Among x (L ++ M) → Among x (L' ++ M')
+members_append : {A : Type 0} (L M L' M' : List A) → ((x : A) → IsOneOf x L → IsOneOf x L') → ((x : A) → IsOneOf x M → IsOneOf x M') → (x : A) → IsOneOf x (L ++ M) → IsOneOf x (L' ++ M')
 members_append L M L' M' f g x m =
     elim (mem_append x L M m) [ inl a ↦ append_left x L' M' (f x a) | inr b ↦ append_right x L' M' (g x b) ]
 
@@ -54,7 +54,7 @@ alike_append {A} {L} {M} {L'} {M'} a b = record {
   back = members_append L' M' L M a.back b.back;
 }
 
-members_flat : {A B : Type 0} (L M : List A) (g : A → List B) → ((x : A) → Among x L → Among x M) → (y : B) → Among y (flat_map g L) → Among y (flat_map g M)
+members_flat : {A B : Type 0} (L M : List A) (g : A → List B) → ((x : A) → IsOneOf x L → IsOneOf x M) → (y : B) → IsOneOf y (flat_map g L) → IsOneOf y (flat_map g M)
 members_flat L M g h y m = let r = mem_flat g y L m in flat_mem g y r.0 M (h r.0 r.1) r.2
 
 pub alike_flat : {A B : Type 0} {L M : List A} (g : A → List B) → Alike L M → Alike (flat_map g L) (flat_map g M)
@@ -64,12 +64,12 @@ alike_flat {A} {B} {L} {M} g a = record {
   back = members_flat M L g a.back;
 }
 
-pub alike_each : {A B : Type 0} (f g : A → List B) (L : List A) → ((x : A) → Among x L → Alike (f x) (g x)) → Alike (flat_map f L) (flat_map g L)
+pub alike_each : {A B : Type 0} (f g : A → List B) (L : List A) → ((x : A) → IsOneOf x L → Alike (f x) (g x)) → Alike (flat_map f L) (flat_map g L)
 alike_each f g [] h = alike_refl []
 alike_each f g (x ∷ L) h = alike_append (h x (inl refl)) (alike_each f g L (λ y m. h y (inr m)))
 
-members_map : {A B : Type 0} (L M : List A) (g : A → B) → ((x : A) → Among x L → Among x M) → (y : B) → Among y (map g L) → Among y (map g M)
-members_map L M g h y m = let r = mem_map g y L m in subst (λ z. Among z (map g M)) r.2 (map_mem g r.0 M (h r.0 r.1))
+members_map : {A B : Type 0} (L M : List A) (g : A → B) → ((x : A) → IsOneOf x L → IsOneOf x M) → (y : B) → IsOneOf y (map g L) → IsOneOf y (map g M)
+members_map L M g h y m = let r = mem_map g y L m in subst (λ z. IsOneOf z (map g M)) r.2 (map_mem g r.0 M (h r.0 r.1))
 
 pub alike_map : {A B : Type 0} {L M : List A} (g : A → B) → Alike L M → Alike (map g L) (map g M)
 alike_map {A} {B} {L} {M} g a = record {
@@ -78,21 +78,21 @@ alike_map {A} {B} {L} {M} g a = record {
   back = members_map M L g a.back;
 }
 
-pick_none : {A : Type 0} (f : A → Option Holding) (x : A) (L : List A) → pick f L ≡ None → Among x L → f x ≡ None
+pick_none : {A : Type 0} (f : A → Option Holding) (x : A) (L : List A) → pick f L ≡ None → IsOneOf x L → f x ≡ None
 pick_none f x [] h m = absurd m
 pick_none f x (y ∷ L) h m = go (f y) refl h m (pick_none f x L)
   where
-    go : (o : Option Holding) → f y ≡ o → or_then o (pick f L) ≡ None → Among x (y ∷ L) → (pick f L ≡ None → Among x L → f x ≡ None) → f x ≡ None
+    go : (o : Option Holding) → f y ≡ o → or_then o (pick f L) ≡ None → IsOneOf x (y ∷ L) → (pick f L ≡ None → IsOneOf x L → f x ≡ None) → f x ≡ None
     go None e k (inl i) rec = ap f (sym i) ∙ e
     go None e k (inr n) rec = rec k n
     go (Some z) e k n rec = cc
 
-none_picked : {A : Type 0} (f : A → Option Holding) (M : List A) → ((x : A) → Among x M → f x ≡ None) → pick f M ≡ None
+none_picked : {A : Type 0} (f : A → Option Holding) (M : List A) → ((x : A) → IsOneOf x M → f x ≡ None) → pick f M ≡ None
 none_picked f [] h = refl
 none_picked f (x ∷ M) h = ap (λ o. or_then o (pick f M)) (h x (inl refl)) ∙ none_picked f M (λ y m. h y (inr m))
 
 -- what came already may come again to no effect
-pub alike_known : {A : Type 0} (L M : List A) → ((x : A) → Among x M → Among x L) → Alike (L ++ M) L
+pub alike_known : {A : Type 0} (L M : List A) → ((x : A) → IsOneOf x M → IsOneOf x L) → Alike (L ++ M) L
 alike_known {A} L M h = record {
   first = λ f. pick_append f L M ∙ picked f (pick f L) refl;
   into = λ x m. elim (mem_append x L M m) [ inl a ↦ a | inr b ↦ h x b ];
@@ -111,12 +111,12 @@ again_none : (a b c : Option Holding) → or_then a (or_then b (or_then a c)) �
 again_none None b c = refl
 again_none (Some x) b c = refl
 
-members_again : {A : Type 0} (u x : A) (L M : List A) → Among x (u ∷ (L ++ (u ∷ M))) → Among x (u ∷ (L ++ M))
+members_again : {A : Type 0} (u x : A) (L M : List A) → IsOneOf x (u ∷ (L ++ (u ∷ M))) → IsOneOf x (u ∷ (L ++ M))
 members_again u x L M (inl e) = inl e
 members_again u x L M (inr m) =
     elim (mem_append x L (u ∷ M) m) [ inl a ↦ inr (append_left x L M a) | inr (inl e) ↦ inl e | inr (inr b) ↦ inr (append_right x L M b) ]
 
-members_more : {A : Type 0} (u x : A) (L M : List A) → Among x (u ∷ (L ++ M)) → Among x (u ∷ (L ++ (u ∷ M)))
+members_more : {A : Type 0} (u x : A) (L M : List A) → IsOneOf x (u ∷ (L ++ M)) → IsOneOf x (u ∷ (L ++ (u ∷ M)))
 members_more u x L M (inl e) = inl e
 members_more u x L M (inr m) =
     elim (mem_append x L M m) [ inl a ↦ inr (append_left x L (u ∷ M) a) | inr b ↦ inr (append_right x L (u ∷ M) (inr b)) ]
@@ -145,7 +145,7 @@ pub map_of_map : {A B C : Type 0} (f : B → C) (g : A → B) (L : List A) → m
 map_of_map f g [] = refl
 map_of_map f g (x ∷ L) = ap (λ z. f (g x) ∷ z) (map_of_map f g L)
 
-pub map_each : {A B : Type 0} (f g : A → B) (L : List A) → ((x : A) → Among x L → f x ≡ g x) → map f L ≡ map g L
+pub map_each : {A B : Type 0} (f g : A → B) (L : List A) → ((x : A) → IsOneOf x L → f x ≡ g x) → map f L ≡ map g L
 map_each f g [] h = refl
 map_each f g (x ∷ L) h = ap (λ z. z ∷ map f L) (h x (inl refl)) ∙ ap (λ z. g x ∷ z) (map_each f g L (λ y m. h y (inr m)))
 

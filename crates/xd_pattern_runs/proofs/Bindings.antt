@@ -5,10 +5,11 @@ use Rattle.std.specs.Str.{bytes_eq}
 use Rattle.std.proofs.lemmas.Bool.{or_parts}
 use Rattle.xd_doc.specs.Document.{Document, empty, text, element}
 use Rattle.xd_doc.specs.Classes.{class_has}
+use Rattle.xd_doc.specs.Members.{IsOneOf}
 use Rattle.xd_doc.proofs.Lists.{append_none, word_itself}
 use Rattle.xd_syntax.specs.Words.{has_word}
 use Rattle.xd_syntax.specs.Tree.{Tree, Empty, Text, Words, Name, Elem, Seq, Alt, Star, Plus, Opt, Val, Definitions, body, occurrences}
-use Rattle.xd_syntax.specs.Ways.{Way, no_item_way, then_way, item_count, turns, repetition, is_whole, binding, ways_by, ways_of_definition, ways_of_name, unfoldings, ways, Among}
+use Rattle.xd_syntax.specs.Ways.{Way, no_item_way, then_way, item_count, turns, repetition, is_whole, binding, ways_by, ways_of_definition, ways_of_name, unfoldings, ways}
 use Rattle.xd_syntax.proofs.Members.{mem_append, mem_map, mem_flat, cond_true}
 use Rattle.xd_syntax.proofs.NotLinear.{has_word_both}
 use Rattle.xd_laws.proofs.Unfoldings.{same_word_eq}
@@ -38,9 +39,9 @@ same_given x v w e h = ap (given x) (sym e) ∙ h
 nothing_given : (x : List ℕ) (d : Document) (w : Way) → no_item_way d ≡ w → given x w.bindings ≡ []
 nothing_given x d w e = ap (λ (z : Way). given x z.bindings) (sym e)
 
-module _ (N : List ℕ → Document → List Way) (names : (y : List ℕ) (d : Document) (w : Way) → Among w (N y d) → w.bindings ≡ []) (x : List ℕ) where
-  turns_none : (V : Document → List Way) → ((d : Document) (w : Way) → Among w (V d) → given x w.bindings ≡ []) → (k : ℕ) (d : Document) (w : Way) →
-      Among w (turns V k d) → given x w.bindings ≡ []
+module _ (N : List ℕ → Document → List Way) (names : (y : List ℕ) (d : Document) (w : Way) → IsOneOf w (N y d) → w.bindings ≡ []) (x : List ℕ) where
+  turns_none : (V : Document → List Way) → ((d : Document) (w : Way) → IsOneOf w (V d) → given x w.bindings ≡ []) → (k : ℕ) (d : Document) (w : Way) →
+      IsOneOf w (turns V k d) → given x w.bindings ≡ []
   turns_none V h zero d w (inl e) = nothing_given x d w e
   turns_none V h zero d w (inr m) = absurd m
   turns_none V h (suc k) d w m =
@@ -55,7 +56,7 @@ module _ (N : List ℕ → Document → List Way) (names : (y : List ℕ) (d : D
       ]
 
   -- a variable that the pattern no_such_word is not bound
-  pub none_by : (T : Tree) → has_word (occurrences T) x ≡ false → (d : Document) (w : Way) → Among w (ways_by N T d) → given x w.bindings ≡ []
+  pub none_by : (T : Tree) → has_word (occurrences T) x ≡ false → (d : Document) (w : Way) → IsOneOf w (ways_by N T d) → given x w.bindings ≡ []
   none_by Empty h d w (inl e) = nothing_given x d w e
   none_by Empty h d w (inr m) = absurd m
   none_by Text h empty w m = absurd m
@@ -105,17 +106,17 @@ none_all (b ∷ bs) h = go (bytes_eq b.0 b.0) (word_itself b.0) (h b.0)
     go true e k = cc
     go false e k = cc
 
-body_none : (E : Definitions) → BindNothing E → (N : List ℕ → Document → List Way) → ((y : List ℕ) (d : Document) (w : Way) → Among w (N y d) → w.bindings ≡ []) →
-    (y : List ℕ) (o : Option Tree) → body E y ≡ o → (d : Document) (w : Way) → Among w (ways_of_definition (ways_by N) o d) → w.bindings ≡ []
+body_none : (E : Definitions) → BindNothing E → (N : List ℕ → Document → List Way) → ((y : List ℕ) (d : Document) (w : Way) → IsOneOf w (N y d) → w.bindings ≡ []) →
+    (y : List ℕ) (o : Option Tree) → body E y ≡ o → (d : Document) (w : Way) → IsOneOf w (ways_of_definition (ways_by N) o d) → w.bindings ≡ []
 body_none E none N names y None e d w m = absurd m
 body_none E none N names y (Some T) e d w m =
     none_all w.bindings (λ x. none_by N names x T (ap (λ xs. has_word xs x) (none y T e)) d w m)
 
-names_none : (E : Definitions) → BindNothing E → (n : ℕ) (y : List ℕ) (d : Document) (w : Way) → Among w (ways_of_name E n y d) → w.bindings ≡ []
+names_none : (E : Definitions) → BindNothing E → (n : ℕ) (y : List ℕ) (d : Document) (w : Way) → IsOneOf w (ways_of_name E n y d) → w.bindings ≡ []
 names_none E none zero y d w m = absurd m
 names_none E none (suc n) y d w m = body_none E none (ways_of_name E n) (names_none E none n) y (body E y) refl d w m
 
-pub unbound : (E : Definitions) → BindNothing E → (T : Tree) (x : List ℕ) → has_word (occurrences T) x ≡ false → (d : Document) (w : Way) → Among w (ways E T d) → given x w.bindings ≡ []
+pub unbound : (E : Definitions) → BindNothing E → (T : Tree) (x : List ℕ) → has_word (occurrences T) x ≡ false → (d : Document) (w : Way) → IsOneOf w (ways E T d) → given x w.bindings ≡ []
 unbound E none T x h d w m = none_by (ways_of_name E (unfoldings E d)) (names_none E none (unfoldings E d)) x T h d w m
 
 abbrev pub IsOne : List Document → Type 0
@@ -133,8 +134,8 @@ one_second : (x : List ℕ) (v u w : Way) → given x v.bindings ≡ [] → IsOn
 one_second x v u w a b e =
     (b.0, ap (λ (z : Way). given x z.bindings) (sym e) ∙ given_append x v.bindings u.bindings ∙ ap (λ z. z ++ given x u.bindings) a ∙ b.1)
 
-module _ (N : List ℕ → Document → List Way) (names : (y : List ℕ) (d : Document) (w : Way) → Among w (N y d) → w.bindings ≡ []) (x : List ℕ) where
-  seq_one : (T U : Tree) (d : Document) (v u w : Way) → Among v (ways_by N T d) → Among u (ways_by N U v.rest) → then_way v u ≡ w →
+module _ (N : List ℕ → Document → List Way) (names : (y : List ℕ) (d : Document) (w : Way) → IsOneOf w (N y d) → w.bindings ≡ []) (x : List ℕ) where
+  seq_one : (T U : Tree) (d : Document) (v u w : Way) → IsOneOf v (ways_by N T d) → IsOneOf u (ways_by N U v.rest) → then_way v u ≡ w →
       (has_word (occurrences T) x ≡ true → has_word (occurrences U) x ≡ false) → (has_word (occurrences T) x || has_word (occurrences U) x) ≡ true →
       (has_word (occurrences T) x ≡ true → IsOne (given x v.bindings)) → (has_word (occurrences U) x ≡ true → IsOne (given x u.bindings)) →
       (t : Bool) → has_word (occurrences T) x ≡ t → IsOne (given x w.bindings)
@@ -146,7 +147,7 @@ module _ (N : List ℕ → Document → List Way) (names : (y : List ℕ) (d : D
   alt_both T U s either true h = (h, sym s ∙ h)
   alt_both T U s either false h = let k = or_some _ _ either h in cc
 
-  val_one : (T : Tree) (y : List ℕ) (d : Document) (v w : Way) → Among v (ways_by N T d) → binding y v ≡ w → has_word (occurrences T) y ≡ false →
+  val_one : (T : Tree) (y : List ℕ) (d : Document) (v w : Way) → IsOneOf v (ways_by N T d) → binding y v ≡ w → has_word (occurrences T) y ≡ false →
       (has_word (occurrences T) x ≡ true → IsOne (given x v.bindings)) → (t : Bool) → bytes_eq y x ≡ t → (t || has_word (occurrences T) x) ≡ true → IsOne (given x w.bindings)
   val_one T y d v w m e apart f true h either =
       let k : has_word (occurrences T) x ≡ false = subst (λ z. has_word (occurrences T) z ≡ false) (same_word_eq y x h) apart in
@@ -156,7 +157,7 @@ module _ (N : List ℕ → Document → List Way) (names : (y : List ℕ) (d : D
       (i.0, ap (λ (z : Way). given x z.bindings) (sym e) ∙ ap (λ b. cond b (v.taken ∷ given x v.bindings) (given x v.bindings)) h ∙ i.1)
 
   -- a variable of a linear pattern is bound once
-  pub one_by : (T : Tree) → IsLinear T → has_word (occurrences T) x ≡ true → (d : Document) (w : Way) → Among w (ways_by N T d) → IsOne (given x w.bindings)
+  pub one_by : (T : Tree) → IsLinear T → has_word (occurrences T) x ≡ true → (d : Document) (w : Way) → IsOneOf w (ways_by N T d) → IsOne (given x w.bindings)
   one_by Empty l h d w m = cc
   one_by Text l h d w m = cc
   one_by (Words k) l h d w m = cc
@@ -183,5 +184,5 @@ module _ (N : List ℕ → Document → List Way) (names : (y : List ℕ) (d : D
       let r = mem_map (binding y) w (ways_by N T d) m in
       val_one T y d r.0 w r.1 r.2 l.0 (λ k. one_by T l.1 k d r.0 r.1) (bytes_eq y x) refl h
 
-pub bound_once : (E : Definitions) → BindNothing E → (T : Tree) → IsLinear T → (x : List ℕ) → has_word (occurrences T) x ≡ true → (d : Document) (w : Way) → Among w (ways E T d) → IsOne (given x w.bindings)
+pub bound_once : (E : Definitions) → BindNothing E → (T : Tree) → IsLinear T → (x : List ℕ) → has_word (occurrences T) x ≡ true → (d : Document) (w : Way) → IsOneOf w (ways E T d) → IsOne (given x w.bindings)
 bound_once E none T l x h d w m = one_by (ways_of_name E (unfoldings E d)) (names_none E none (unfoldings E d)) x T l h d w m

@@ -2,10 +2,10 @@
 use Rattle.std.proofs.Common.{◌≡◌, ℕ, suc, zero, ◌+◌, ◌≤◌, arith, Bool, true, false, List, [], ◌∷◌, ◌++◌, flat_map, length, Option, Some, None, refl, ap, sym, subst, ◌∙◌, inl, inr}
 use Rattle.std.proofs.lemmas.Grind.{flat_map-append}
 use Rattle.xd_doc.specs.Document.{empty}
+use Rattle.xd_doc.specs.Members.{IsOneOf}
 use Rattle.xd_doc.proofs.Lists.{append_none}
 use Rattle.xd_syntax.specs.Tree.{Tree, Empty, Text, Words, Name, Elem, Seq, Alt, Star, Plus, Opt, Val, Definitions, body}
 use Rattle.xd_syntax.specs.TreeForms.{alt_of}
-use Rattle.xd_syntax.specs.Ways.{Among}
 use Rattle.xd_syntax.specs.Fits.{Fits}
 use Rattle.xd_laws.specs.Guarded.{Front, Guarded, Defined}
 use Rattle.xd_laws.specs.Guarded as R
@@ -29,7 +29,7 @@ abbrev Names : Type 0
 Names = List (List ℕ) → List ℕ → List Choice
 
 abbrev Stops : Definitions → Names → Type 0
-Stops E N = (xs : List (List ℕ)) (y : List ℕ) → Among stop (N xs y) → Fits E (Name y) empty
+Stops E N = (xs : List (List ℕ)) (y : List ℕ) → IsOneOf stop (N xs y) → Fits E (Name y) empty
 
 reads : (E : Definitions) (N M : Names) → Stops E M → (T : Tree) (xs : List (List ℕ)) → ((y : List ℕ) (zs : List (List ℕ)) → Front E T y → N zs y ≡ M zs y) → choices_by N xs T ≡ choices_by M xs T
 reads E N M s Empty xs h = refl
@@ -97,11 +97,11 @@ abbrev by_parts : Definitions → List (List ℕ) → Tree → List Choice
 by_parts E xs T = choices_by (choices_of_name E (length E)) xs T
 
 -- of stops after one that was there already none counts
-known_stops : (before cs : List Choice) → Among stop before → Alike (before ++ without_stops cs) (before ++ cs)
+known_stops : (before cs : List Choice) → IsOneOf stop before → Alike (before ++ without_stops cs) (before ++ cs)
 known_stops before [] m = alike_refl (before ++ [])
 known_stops before (stop ∷ cs) m =
     alike_trans (known_stops before cs m)
-    (alike_trans (alike_append (alike_sym (alike_known before (stop ∷ []) (λ c k. elim k [ inl e ↦ subst (λ d. Among d before) e m | inr n ↦ absurd n ]))) (alike_refl cs))
+    (alike_trans (alike_append (alike_sym (alike_known before (stop ∷ []) (λ c k. elim k [ inl e ↦ subst (λ d. IsOneOf d before) e m | inr n ↦ absurd n ]))) (alike_refl cs))
     (alike_same (append_then before (stop ∷ []) cs)))
 known_stops before (take_text w xs R ∷ cs) m =
     alike_trans (alike_same (sym (append_then before (take_text w xs R ∷ []) (without_stops cs))))

@@ -1,10 +1,10 @@
 -- The patterns of clauses, and parts of patterns, are linear.
 use Rattle.std.proofs.Common.{◌≡◌, ℕ, false, List, [], ◌++◌, map, ap, sym, subst, ◌∙◌, inl, inr}
 use Rattle.xd_doc.proofs.Lists.{append_none_parts}
+use Rattle.xd_doc.specs.Members.{IsOneOf}
 use Rattle.xd_syntax.specs.Words.{has_word}
 use Rattle.xd_syntax.specs.Tree.{Tree, Empty, Text, Words, Name, Elem, Seq, Alt, Star, Plus, Opt, Val, occurrences}
 use Rattle.xd_syntax.specs.Placed.{PlacedTree, variables}
-use Rattle.xd_syntax.specs.Ways.{Among}
 use Rattle.xd_syntax.specs.Expression.{Expression, Nothing, Quoted, Variable, Tagged, Joined, Called, Matched, Arguments, no_argument, argument, Clauses, no_clause, clause}
 use Rattle.xd_syntax.specs.Program.{Parameter, ProgramTree, function_of}
 use Rattle.xd_syntax.specs.NameFaults.{known_types, pattern_faults, call_faults, argument_count, expression_faults, argument_faults, clause_faults}
@@ -51,7 +51,7 @@ parts_are_linear U T p l = part_linear U T p l
 
 -- the patterns of an expression without faults have none
 mutual
-  in_expression : (P : ProgramTree) (scope : List (List ℕ)) (e : Expression) → expression_faults P scope e ≡ [] → (A : PlacedTree) → Among A (patterns_in e) → pattern_faults (known_types P) A ≡ []
+  in_expression : (P : ProgramTree) (scope : List (List ℕ)) (e : Expression) → expression_faults P scope e ≡ [] → (A : PlacedTree) → IsOneOf A (patterns_in e) → pattern_faults (known_types P) A ≡ []
   in_expression P scope (Nothing p) h A m = absurd m
   in_expression P scope (Quoted p s) h A m = absurd m
   in_expression P scope (Variable p x) h A m = absurd m
@@ -65,13 +65,13 @@ mutual
       let k = append_none_parts (expression_faults P scope e) (clause_faults P scope cs) h in
       elim (mem_append A (patterns_in e) (patterns_in_clauses cs) m) [ inl a ↦ in_expression P scope e k.0 A a | inr b ↦ in_clauses P scope cs k.1 A b ]
 
-  in_arguments : (P : ProgramTree) (scope : List (List ℕ)) (es : Arguments) → argument_faults P scope es ≡ [] → (A : PlacedTree) → Among A (patterns_in_arguments es) → pattern_faults (known_types P) A ≡ []
+  in_arguments : (P : ProgramTree) (scope : List (List ℕ)) (es : Arguments) → argument_faults P scope es ≡ [] → (A : PlacedTree) → IsOneOf A (patterns_in_arguments es) → pattern_faults (known_types P) A ≡ []
   in_arguments P scope no_argument h A m = absurd m
   in_arguments P scope (argument e es) h A m =
       let k = append_none_parts (expression_faults P scope e) (argument_faults P scope es) h in
       elim (mem_append A (patterns_in e) (patterns_in_arguments es) m) [ inl a ↦ in_expression P scope e k.0 A a | inr b ↦ in_arguments P scope es k.1 A b ]
 
-  in_clauses : (P : ProgramTree) (scope : List (List ℕ)) (cs : Clauses) → clause_faults P scope cs ≡ [] → (A : PlacedTree) → Among A (patterns_in_clauses cs) → pattern_faults (known_types P) A ≡ []
+  in_clauses : (P : ProgramTree) (scope : List (List ℕ)) (cs : Clauses) → clause_faults P scope cs ≡ [] → (A : PlacedTree) → IsOneOf A (patterns_in_clauses cs) → pattern_faults (known_types P) A ≡ []
   in_clauses P scope no_clause h A m = absurd m
   in_clauses P scope (clause Q e cs) h A m =
       let j = append_none_parts (pattern_faults (known_types P) Q ++ expression_faults P (variables Q ++ scope) e) (clause_faults P scope cs) h in

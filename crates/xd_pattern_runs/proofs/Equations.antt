@@ -3,8 +3,9 @@
 use Rattle.std.proofs.Common.{◌≡◌, ℕ, suc, zero, ◌+◌, ◌*◌, ◌≤◌, ltb, ltb-true, mul-le-mul_right, arith, true, false, cond, Bool, List, [], ◌∷◌, ◌++◌, map, flat_map, length, Some, None, refl, ap, sym, ◌∙◌}
 use Rattle.xd_doc.specs.Document.{Document, empty, element, size}
 use Rattle.xd_doc.specs.Classes.{LabelClass, class_has}
+use Rattle.xd_doc.specs.Members.{IsOneOf}
 use Rattle.xd_syntax.specs.Tree.{Tree, Name, Elem, Seq, Star, Plus, Definitions, body}
-use Rattle.xd_syntax.specs.Ways.{Way, no_item_way, then_way, item_count, turns, is_whole, element_ways, ways_by, ways_of_definition, ways_of_name, ways_within, unfoldings, ways, Among}
+use Rattle.xd_syntax.specs.Ways.{Way, no_item_way, then_way, item_count, turns, is_whole, element_ways, ways_by, ways_of_definition, ways_of_name, ways_within, unfoldings, ways}
 use Rattle.xd_laws.specs.Guarded.{Guarded}
 use Rattle.xd_syntax.proofs.Members.{flat_same}
 use Rattle.xd_laws.proofs.FitsWays.{turns_fuel, cond_same}
@@ -32,7 +33,7 @@ module _ (E : Definitions) (guarded : Guarded E) where
   fewer b d h = let i : size b + 1 ≤ size d + 1 = omega arith in mul-le-mul_right (length E + 1) i
 
   -- the unfoldings for a document suffice for what a way leaves of it
-  pub enough_behind : (T U : Tree) (d : Document) (v : Way) → Among v (ways E T d) → ways_within E (unfoldings E d) U v.rest ≡ ways E U v.rest
+  pub enough_behind : (T U : Tree) (d : Document) (v : Way) → IsOneOf v (ways E T d) → ways_within E (unfoldings E d) U v.rest ≡ ways E U v.rest
   enough_behind T U d v m =
       let g = sound E (unfoldings E d) T d v m in
       enough (unfoldings E d) U v.rest (fewer v.rest d (rest_within v.taken v.rest d g.0))

@@ -4,6 +4,7 @@ use Rattle.std.specs.Str.{bytes_eq}
 use Rattle.std.proofs.lemmas.Grind.{flat_map-append}
 use Rattle.xd_doc.specs.Document.{Document, empty, text, element, join}
 use Rattle.xd_doc.specs.Classes.{LabelClass, TextClass, class_has}
+use Rattle.xd_doc.specs.Members.{IsOneOf}
 use Rattle.xd_doc.proofs.Bools.{or_right}
 use Rattle.xd_doc.proofs.Joins.{join_empty-right, join_assoc}
 use Rattle.xd_doc.proofs.Lists.{map_append, append_none}
@@ -11,7 +12,7 @@ use Rattle.xd_syntax.specs.Words.{has_word}
 use Rattle.xd_syntax.specs.Tree.{Tree, Empty, Text, Words, Name, Elem, Seq, Alt, Star, Plus, Opt, Val, Definitions, body, occurrences}
 use Rattle.xd_meaning.specs.Heads.{all_texts}
 use Rattle.xd_syntax.specs.Fits.{Fits}
-use Rattle.xd_syntax.specs.Ways.{Way, no_item_way, then_way, item_count, is_whole, binding, ways, Among}
+use Rattle.xd_syntax.specs.Ways.{Way, no_item_way, then_way, item_count, is_whole, binding, ways}
 use Rattle.xd_laws.specs.Guarded.{Front, Step, Guarded, Defined}
 use Rattle.xd_syntax.specs.Fits as F
 use Rattle.xd_laws.specs.Guarded as R
@@ -34,32 +35,32 @@ IsFine xs T = IsApart T × ((x : List ℕ) → has_word xs x ≡ true → has_wo
 
 -- stops
 
-single : (c d : Choice) → Among c (d ∷ []) → d ≡ c
+single : (c d : Choice) → IsOneOf c (d ∷ []) → d ≡ c
 single c d (inl e) = e
 single c d (inr m) = absurd m
 
-stop_in_place : (K : Continuation) (cs : List Choice) (b : Choice) → Among stop (in_place K cs b) → (b ≡ stop) × Among stop cs
+stop_in_place : (K : Continuation) (cs : List Choice) (b : Choice) → IsOneOf stop (in_place K cs b) → (b ≡ stop) × IsOneOf stop cs
 stop_in_place K cs stop m = (refl, m)
 stop_in_place K cs (take_text w xs R) m = let e = single stop (take_text w xs (R ++ K)) m in cc
 stop_in_place K cs (take_element c T xs R) m = let e = single stop (take_element c T xs (R ++ K)) m in cc
 
-pub stop_behind : (K : Continuation) (cs bs : List Choice) → Among stop (then_choices bs K cs) → Among stop bs × Among stop cs
+pub stop_behind : (K : Continuation) (cs bs : List Choice) → IsOneOf stop (then_choices bs K cs) → IsOneOf stop bs × IsOneOf stop cs
 stop_behind K cs bs m =
     let r = mem_flat (in_place K cs) stop bs m in
-    let q = stop_in_place K cs r.0 r.2 in (subst (λ b. Among b bs) q.0 r.1, q.1)
+    let q = stop_in_place K cs r.0 r.2 in (subst (λ b. IsOneOf b bs) q.0 r.1, q.1)
 
-pub stop_there : (cs : List Choice) → has_stop cs ≡ true → Among stop cs
+pub stop_there : (cs : List Choice) → has_stop cs ≡ true → IsOneOf stop cs
 stop_there [] h = cc
 stop_there (stop ∷ cs) h = inl refl
 stop_there (take_text w xs R ∷ cs) h = inr (stop_there cs h)
 stop_there (take_element c C xs R ∷ cs) h = inr (stop_there cs h)
 
-stop_again : (p : Piece) (cs : List Choice) → Among stop (some_turn_choices p cs) → Among stop cs
+stop_again : (p : Piece) (cs : List Choice) → IsOneOf stop (some_turn_choices p cs) → IsOneOf stop cs
 stop_again p cs m =
     elim (mem_append stop (then_choices cs (p ∷ []) []) (cond (has_stop cs) (stop ∷ []) []) m)
     [ inl a ↦ absurd (stop_behind (p ∷ []) [] cs a).1 | inr b ↦ stop_there cs (cond_true (has_stop cs) stop (stop ∷ []) b).0 ]
 
-without_in : (c : Choice) (cs : List Choice) → Among c (without_stops cs) → Among c cs
+without_in : (c : Choice) (cs : List Choice) → IsOneOf c (without_stops cs) → IsOneOf c cs
 without_in c [] m = m
 without_in c (stop ∷ cs) m = inr (without_in c cs m)
 without_in c (take_text w xs R ∷ cs) (inl e) = inl e
@@ -67,7 +68,7 @@ without_in c (take_text w xs R ∷ cs) (inr m) = inr (without_in c cs m)
 without_in c (take_element k T xs R ∷ cs) (inl e) = inl e
 without_in c (take_element k T xs R ∷ cs) (inr m) = inr (without_in c cs m)
 
-pub one_stop_in : (c : Choice) (cs : List Choice) → Among c (one_stop cs) → Among c cs
+pub one_stop_in : (c : Choice) (cs : List Choice) → IsOneOf c (one_stop cs) → IsOneOf c cs
 one_stop_in c [] m = m
 one_stop_in c (stop ∷ cs) (inl e) = inl e
 one_stop_in c (stop ∷ cs) (inr m) = inr (without_in c cs m)
@@ -77,8 +78,8 @@ one_stop_in c (take_element k T xs R ∷ cs) (inl e) = inl e
 one_stop_in c (take_element k T xs R ∷ cs) (inr m) = inr (one_stop_in c cs m)
 
 -- what may stop can be empty
-pub stop_fits_by : (E : Definitions) (N : List (List ℕ) → List ℕ → List Choice) → ((xs : List (List ℕ)) (y : List ℕ) → Among stop (N xs y) → Fits E (Name y) empty) →
-    (T : Tree) (xs : List (List ℕ)) → Among stop (choices_by N xs T) → Fits E T empty
+pub stop_fits_by : (E : Definitions) (N : List (List ℕ) → List ℕ → List Choice) → ((xs : List (List ℕ)) (y : List ℕ) → IsOneOf stop (N xs y) → Fits E (Name y) empty) →
+    (T : Tree) (xs : List (List ℕ)) → IsOneOf stop (choices_by N xs T) → Fits E T empty
 stop_fits_by E N names Empty xs m = F.fits_empty
 stop_fits_by E N names Text xs m = let e = single stop (take_text all_texts xs []) m in cc
 stop_fits_by E N names (Words w) xs m = let e = single stop (take_text w xs []) m in cc
@@ -96,12 +97,12 @@ stop_fits_by E N names (Plus T) xs m =
 stop_fits_by E N names (Opt T) xs m = F.fits_absent
 stop_fits_by E N names (Val y T) xs m = F.fits_val (stop_fits_by E N names T (y ∷ xs) m)
 
-stop_fits_body : (E : Definitions) (G : Tree → List Choice) (y : List ℕ) → ((T : Tree) → Among stop (G T) → Fits E T empty) → (o : Option Tree) → body E y ≡ o →
-    Among stop (choices_of_definition G o) → Fits E (Name y) empty
+stop_fits_body : (E : Definitions) (G : Tree → List Choice) (y : List ℕ) → ((T : Tree) → IsOneOf stop (G T) → Fits E T empty) → (o : Option Tree) → body E y ≡ o →
+    IsOneOf stop (choices_of_definition G o) → Fits E (Name y) empty
 stop_fits_body E G y h None e m = absurd m
 stop_fits_body E G y h (Some T) e m = F.fits_name e (h T m)
 
-pub stop_fits_name : (E : Definitions) (n : ℕ) (xs : List (List ℕ)) (y : List ℕ) → Among stop (choices_of_name E n xs y) → Fits E (Name y) empty
+pub stop_fits_name : (E : Definitions) (n : ℕ) (xs : List (List ℕ)) (y : List ℕ) → IsOneOf stop (choices_of_name E n xs y) → Fits E (Name y) empty
 stop_fits_name E zero xs y m = absurd m
 stop_fits_name E (suc n) xs y m =
     stop_fits_body E (choices_by (choices_of_name E n) xs) y (λ T. stop_fits_by E (choices_of_name E n) (stop_fits_name E n) T xs) (body E y) refl m
@@ -163,12 +164,12 @@ not_fewer n = go (ltb n n) refl
     go true e = let k = ltb-true _ _ e in absurd (omega arith)
     go false e = e
 
-all_fewer : (W : Document → List Partial) (d : Document) (L : List Partial) → ((p : Partial) → Among p L → item_count p.rest < item_count d) → flat_map (fewer_each W d) L ≡ bind W L
+all_fewer : (W : Document → List Partial) (d : Document) (L : List Partial) → ((p : Partial) → IsOneOf p L → item_count p.rest < item_count d) → flat_map (fewer_each W d) L ≡ bind W L
 all_fewer W d L h = flat_same (fewer_each W d) (then_each W) L (λ p m. ap (λ b. cond b (then_each W p) []) (lt-ltb _ _ (h p m)))
 
 -- what is taken leaves less
-take_fewer : (E : Definitions) (R : Continuation) (d : Document) (L : List Partial) → ((p : Partial) → Among p L → item_count p.rest < item_count d) →
-    (v : Partial) → Among v (bind (means E R) L) → item_count v.rest < item_count d
+take_fewer : (E : Definitions) (R : Continuation) (d : Document) (L : List Partial) → ((p : Partial) → IsOneOf p L → item_count p.rest < item_count d) →
+    (v : Partial) → IsOneOf v (bind (means E R) L) → item_count v.rest < item_count d
 take_fewer E R d L h v m =
     let r = mem_flat (then_each (means E R)) v L m in
     let q = mem_map (and_next r.0) v (means E R (r.0).rest) r.2 in
@@ -177,7 +178,7 @@ take_fewer E R d L h v m =
     let a : item_count (q.0).rest ≡ item_count v.rest = ap (λ (p : Partial). item_count p.rest) q.2 in
     omega arith
 
-text_fewer : (w : TextClass) (xs : List (List ℕ)) (d : Document) (p : Partial) → Among p (text_parts w xs d) → item_count p.rest < item_count d
+text_fewer : (w : TextClass) (xs : List (List ℕ)) (d : Document) (p : Partial) → IsOneOf p (text_parts w xs d) → item_count p.rest < item_count d
 text_fewer w xs empty p m = absurd m
 text_fewer w xs (text s d) p m =
     let a = cond_true (class_has w s) p _ m in
@@ -185,7 +186,7 @@ text_fewer w xs (text s d) p m =
     [ inl e ↦ let i : item_count d ≡ item_count p.rest = ap (λ (q : Partial). item_count q.rest) e in omega arith | inr n ↦ absurd n ]
 text_fewer w xs (element l k d) p m = absurd m
 
-element_fewer : (E : Definitions) (c : LabelClass) (C : Continuation) (xs : List (List ℕ)) (d : Document) (p : Partial) → Among p (element_parts E c C xs d) → item_count p.rest < item_count d
+element_fewer : (E : Definitions) (c : LabelClass) (C : Continuation) (xs : List (List ℕ)) (d : Document) (p : Partial) → IsOneOf p (element_parts E c C xs d) → item_count p.rest < item_count d
 element_fewer E c C xs empty p m = absurd m
 element_fewer E c C xs (text s d) p m = absurd m
 element_fewer E c C xs (element l k d) p m =
@@ -249,7 +250,7 @@ stopless p T (take_text w xs R ∷ cs) h = ap (λ z. take_text w xs (R ++ p ∷ 
 stopless p T (take_element c C xs R ∷ cs) h = ap (λ z. take_element c C xs (R ++ p ∷ []) ∷ z) (stopless p T cs h)
 
 -- nothing new comes of choices whose turns came already
-turn_known : (p : Piece) (T cs : List Choice) → ((c : Choice) → Among c (then_choices cs (p ∷ []) []) → Among c T) → (c : Choice) → Among c (then_choices cs (p ∷ []) T) → Among c T
+turn_known : (p : Piece) (T cs : List Choice) → ((c : Choice) → IsOneOf c (then_choices cs (p ∷ []) []) → IsOneOf c T) → (c : Choice) → IsOneOf c (then_choices cs (p ∷ []) T) → IsOneOf c T
 turn_known p T [] h c m = absurd m
 turn_known p T (stop ∷ cs) h c m =
     elim (mem_append c T (then_choices cs (p ∷ []) T) m) [ inl a ↦ a | inr b ↦ turn_known p T cs h c b ]
@@ -262,8 +263,8 @@ turn_known p T (take_element k C xs R ∷ cs) h c (inr m) = turn_known p T cs (�
 turns_from : (p : Piece) (before cs T : List Choice) → has_stop cs ≡ true → T ≡ before ++ (then_choices cs (p ∷ []) [] ++ stop ∷ []) → Alike (before ++ then_choices cs (p ∷ []) T) T
 turns_from p before [] T h e = cc
 turns_from p before (stop ∷ cs) T h e =
-    let known : (c : Choice) → Among c (then_choices cs (p ∷ []) T) → Among c T =
-    turn_known p T cs (λ c m. subst (Among c) (sym e) (append_right c before _ (append_left c (then_choices cs (p ∷ []) []) (stop ∷ []) m))) in
+    let known : (c : Choice) → IsOneOf c (then_choices cs (p ∷ []) T) → IsOneOf c T =
+    turn_known p T cs (λ c m. subst (IsOneOf c) (sym e) (append_right c before _ (append_left c (then_choices cs (p ∷ []) []) (stop ∷ []) m))) in
     alike_trans (alike_append (alike_refl before) (alike_known T (then_choices cs (p ∷ []) T) known))
     (alike_trans (alike_same (ap (λ z. before ++ z) e))
     (alike_trans (alike_twice before (then_choices cs (p ∷ []) [] ++ stop ∷ [])) (alike_same (sym e))))
@@ -387,7 +388,7 @@ fine_none xs T e = (apart_none T e, λ x h. ap (λ z. has_word z x) e)
 -- the main lemma: by unfoldings, and within each by the part; the names that were unfolded since
 -- the last item form a chain
 module _ (E : Definitions) (guarded : Guarded E) (none : BindNothing E) (n : ℕ) (N : List (List ℕ) → List ℕ → List Choice)
-    (stops : (xs : List (List ℕ)) (y : List ℕ) → Among stop (N xs y) → Fits E (Name y) empty)
+    (stops : (xs : List (List ℕ)) (y : List ℕ) → IsOneOf stop (N xs y) → Fits E (Name y) empty)
     (names : (V : List (List ℕ)) (xs : List (List ℕ)) (y : List ℕ) → (Defined E y → Trail E (y ∷ V)) → length E ≤ n + length V → (d : Document) →
     Alike (all_do E d (N xs y)) (piece_means E (piece xs (Name y)) d)) where
   factor_by : (T : Tree) (V : List (List ℕ)) (xs : List (List ℕ)) → IsFine xs T → ((y : List ℕ) → Front E T y → Defined E y → Trail E (y ∷ V)) → length E ≤ n + length V →

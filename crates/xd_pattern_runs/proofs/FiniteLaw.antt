@@ -2,9 +2,9 @@
 use Rattle.std.proofs.Common.{◌≡◌, ℕ, suc, zero, ◌+◌, ◌≤◌, arith, Bool, true, false, cond, ◌⊎◌, List, [], ◌∷◌, ◌++◌, map, flat_map, length, Some, refl, ap, sym, subst, inl, inr}
 use Rattle.std.specs.Str.{bytes_eq}
 use Rattle.std.proofs.lemmas.List.{length-append}
+use Rattle.xd_doc.specs.Members.{IsOneOf}
 use Rattle.xd_syntax.specs.Tree.{Tree, Empty, Text, Words, Name, Elem, Seq, Alt, Star, Plus, Opt, Val, Definitions, body, occurrences}
 use Rattle.xd_meaning.specs.Heads.{all_texts}
-use Rattle.xd_syntax.specs.Ways.{Among}
 use Rattle.xd_syntax.proofs.Members.{mem_append, append_left, append_right, map_mem, flat_mem}
 use Rattle.xd_pattern_runs.specs.Runs.{Piece, Continuation, Choice, stop, take_text, take_element, start, in_place, then_choices, has_stop, choices_by, choices_of_name, choices_within}
 use Rattle.xd_pattern_runs.specs.Linear.{BindNothing}
@@ -150,8 +150,8 @@ itself Q G xs (Plus T) f = f.0
 itself Q G xs (Opt T) f = f.0
 itself Q G xs (Val y T) f = f.0
 
-pieces_in : (Q : Piece → Type 0) (G : List (List ℕ) → Type 0) (T : Tree) (xs : List (List ℕ)) → ((p : Piece) → Among p (pieces_of xs T) → Q p) →
-    ((ys : List (List ℕ)) → Among ys (marks_of xs T) → G ys) → PiecesIn Q G xs T
+pieces_in : (Q : Piece → Type 0) (G : List (List ℕ) → Type 0) (T : Tree) (xs : List (List ℕ)) → ((p : Piece) → IsOneOf p (pieces_of xs T) → Q p) →
+    ((ys : List (List ℕ)) → IsOneOf ys (marks_of xs T) → G ys) → PiecesIn Q G xs T
 pieces_in Q G Empty xs f g = f (piece xs Empty) (inl refl)
 pieces_in Q G Text xs f g = f (piece xs Text) (inl refl)
 pieces_in Q G (Words w) xs f g = f (piece xs (Words w)) (inl refl)
@@ -173,7 +173,7 @@ pieces_in Q G (Opt T) xs f g = (f (piece xs (Opt T)) (inl refl), pieces_in Q G T
 pieces_in Q G (Val y T) xs f g = (f (piece xs (Val y T)) (inl refl), pieces_in Q G T (y ∷ xs) (λ p m. f p (inr m)) g)
 
 -- where nothing is bound the marks stay, or there are none
-marks_stay : (T : Tree) (xs ys : List (List ℕ)) → occurrences T ≡ [] → Among ys (marks_of xs T) → (ys ≡ xs) ⊎ (ys ≡ [])
+marks_stay : (T : Tree) (xs ys : List (List ℕ)) → occurrences T ≡ [] → IsOneOf ys (marks_of xs T) → (ys ≡ xs) ⊎ (ys ≡ [])
 marks_stay Empty xs ys e m = absurd m
 marks_stay Text xs ys e m = absurd m
 marks_stay (Words w) xs ys e m = absurd m
@@ -288,7 +288,7 @@ abbrev lists_of : ℕ → List Piece → List Continuation
 lists_of zero ps = [] ∷ []
 lists_of (suc n) ps = [] ∷ flat_map (λ p. map (λ K. p ∷ K) (lists_of n ps)) ps
 
-in_lists : (n : ℕ) (ps : List Piece) (K : Continuation) → length K ≤ n → AllPieces (λ p. Among p ps) K → Among K (lists_of n ps)
+in_lists : (n : ℕ) (ps : List Piece) (K : Continuation) → length K ≤ n → AllPieces (λ p. IsOneOf p ps) K → IsOneOf K (lists_of n ps)
 in_lists zero ps [] h f = inl refl
 in_lists zero ps (p ∷ K) h f = absurd (omega arith)
 in_lists (suc n) ps [] h f = inl refl
@@ -302,24 +302,24 @@ all_marks P = [] ∷ marks_of [] P
 abbrev all_pieces : Definitions → Tree → List Piece
 all_pieces E P = pieces_of [] P ++ flat_map (λ xs. flat_map (λ (t : List ℕ × Tree). pieces_of xs t.1) E) (all_marks P)
 
-in_definitions : (E : Definitions) (y : List ℕ) (T : Tree) → body E y ≡ Some T → (x : List ℕ) × Among (x, T) E
+in_definitions : (E : Definitions) (y : List ℕ) (T : Tree) → body E y ≡ Some T → (x : List ℕ) × IsOneOf (x, T) E
 in_definitions [] y T e = cc
 in_definitions (p ∷ E) y T e = go (bytes_eq p.0 y) e (in_definitions E y T)
   where
-    go : (b : Bool) → cond b (Some p.1) (body E y) ≡ Some T → (body E y ≡ Some T → (x : List ℕ) × Among (x, T) E) → (x : List ℕ) × Among (x, T) (p ∷ E)
+    go : (b : Bool) → cond b (Some p.1) (body E y) ≡ Some T → (body E y ≡ Some T → (x : List ℕ) × IsOneOf (x, T) E) → (x : List ℕ) × IsOneOf (x, T) (p ∷ E)
     go true k rec = let s : p.1 ≡ T = cc in (p.0, inl (ap (λ U. (p.0, U)) s))
     go false k rec = let r = rec k in (r.0, inr r.1)
 
-definition_pieces : (E : Definitions) → BindNothing E → (P : Tree) (xs : List (List ℕ)) → Among xs (all_marks P) → (y : List ℕ) (T : Tree) → body E y ≡ Some T →
-    PiecesIn (λ p. Among p (all_pieces E P)) (λ ys. Among ys (all_marks P)) xs T
+definition_pieces : (E : Definitions) → BindNothing E → (P : Tree) (xs : List (List ℕ)) → IsOneOf xs (all_marks P) → (y : List ℕ) (T : Tree) → body E y ≡ Some T →
+    PiecesIn (λ p. IsOneOf p (all_pieces E P)) (λ ys. IsOneOf ys (all_marks P)) xs T
 definition_pieces E none P xs g y T e =
     let d = in_definitions E y T e in
-    pieces_in (λ p. Among p (all_pieces E P)) (λ ys. Among ys (all_marks P)) T xs
+    pieces_in (λ p. IsOneOf p (all_pieces E P)) (λ ys. IsOneOf ys (all_marks P)) T xs
     (λ p m. append_right p (pieces_of [] P) _ (flat_mem (λ zs. flat_map (λ (t : List ℕ × Tree). pieces_of zs t.1) E) p xs (all_marks P) g (flat_mem (λ (t : List ℕ × Tree). pieces_of xs t.1) p (d.0, T) E d.1 m)))
     (λ ys m. kept ys (marks_stay T xs ys (none y T e) m))
   where
-    kept : (ys : List (List ℕ)) → (ys ≡ xs) ⊎ (ys ≡ []) → Among ys (all_marks P)
-    kept ys (inl i) = subst (λ z. Among z (all_marks P)) (sym i) g
+    kept : (ys : List (List ℕ)) → (ys ≡ xs) ⊎ (ys ≡ []) → IsOneOf ys (all_marks P)
+    kept ys (inl i) = subst (λ z. IsOneOf z (all_marks P)) (sym i) g
     kept ys (inr i) = inl (sym i)
 
 pub finitely_many_reached : FinitelyManyReached
@@ -331,11 +331,11 @@ finitely_many_reached E none H heights P =
     let B : ℕ = a.0 + b.0 + c.0 in
     let inside : (y : List ℕ) (T : Tree) → body E y ≡ Some T → LowInside H B T = λ y T e. inside_more H c.0 B (omega arith) T (c.1 y T e) in
     let pieces = definition_pieces E none P in
-    let own = pieces_in (λ p. Among p ps) (λ ys. Among ys (all_marks P)) P [] (λ p m. append_left p (pieces_of [] P) _ m) (λ ys m. inr m) in
-    let first = stack_one E H heights B (λ p. Among p ps) (λ ys. Among ys (all_marks P)) inside pieces B [] P (low_more H a.0 B (omega arith) P a.1) (own, inside_more H b.0 B (omega arith) P b.1) in (
+    let own = pieces_in (λ p. IsOneOf p ps) (λ ys. IsOneOf ys (all_marks P)) P [] (λ p m. append_left p (pieces_of [] P) _ m) (λ ys m. inr m) in
+    let first = stack_one E H heights B (λ p. IsOneOf p ps) (λ ys. IsOneOf ys (all_marks P)) inside pieces B [] P (low_more H a.0 B (omega arith) P a.1) (own, inside_more H b.0 B (omega arith) P b.1) in (
       lists_of (B + 1) ps,
       λ K r.
-          let s = reached_stack E H heights B (λ p. Among p ps) (λ ys. Among ys (all_marks P)) inside pieces P first K r in
-          in_lists (B + 1) ps K (stack_short E H heights B (λ p. Among p ps) (λ ys. Among ys (all_marks P)) inside pieces K s)
-          (stack_pieces E H heights B (λ p. Among p ps) (λ ys. Among ys (all_marks P)) inside pieces K s),
+          let s = reached_stack E H heights B (λ p. IsOneOf p ps) (λ ys. IsOneOf ys (all_marks P)) inside pieces P first K r in
+          in_lists (B + 1) ps K (stack_short E H heights B (λ p. IsOneOf p ps) (λ ys. IsOneOf ys (all_marks P)) inside pieces K s)
+          (stack_pieces E H heights B (λ p. IsOneOf p ps) (λ ys. IsOneOf ys (all_marks P)) inside pieces K s),
     )

@@ -5,7 +5,7 @@ use Rattle.std.specs.List.{list_any}
 use Rattle.xd_doc.specs.Document.{Document, empty, text, element}
 use Rattle.xd_doc.specs.Classes.{class_has}
 use Rattle.xd_doc.specs.Runs.{at_end, at_text, at_element}
-use Rattle.xd_syntax.specs.Ways.{Among}
+use Rattle.xd_doc.specs.Members.{IsOneOf}
 use Rattle.xd_pattern_runs.specs.Runs.{TextMove, ElementMove, Moves, MarkedRun, text_runs, element_runs, runs_by}
 use Rattle.xd_pattern_runs.specs.FirstRun.{accepts_by, text_then_run, element_then_run, first_over_text, first_over_element, first_by, AcceptsByRuns, FirstMovesFirst}
 
@@ -137,11 +137,11 @@ module _ {S : Type 0} (M : S → Moves S) where
   first_is_first (text t d) s = text_first t d (first_is_first d) (M s).texts
   first_is_first (element l c d) s = element_first l c d (first_is_first c) (first_is_first d) (M s).elements
 
-filled_run : (rs : List MarkedRun) → is_filled rs ≡ true → (r : MarkedRun) × Among r rs
+filled_run : (rs : List MarkedRun) → is_filled rs ≡ true → (r : MarkedRun) × IsOneOf r rs
 filled_run [] h = cc
 filled_run (r ∷ rs) h = (r, inl refl)
 
-run_filled : (rs : List MarkedRun) (r : MarkedRun) → Among r rs → is_filled rs ≡ true
+run_filled : (rs : List MarkedRun) (r : MarkedRun) → IsOneOf r rs → is_filled rs ≡ true
 run_filled [] r m = absurd m
 run_filled (q ∷ rs) r m = refl
 

@@ -4,12 +4,13 @@ use Rattle.std.specs.Str.{bytes_eq}
 use Rattle.std.proofs.lemmas.List.{length-map}
 use Rattle.std.proofs.lemmas.Slice.Eq.{bytes_eq-Decides}
 use Rattle.xd_doc.proofs.Lists.{map_append}
+use Rattle.xd_doc.specs.Members.{IsOneOf}
 use Rattle.xd_syntax.specs.Words.{has_word, any_word}
 use Rattle.xd_syntax.specs.Tree.{Tree, Empty, Text, Words, Name, Elem, Seq, Alt, Star, Plus, Opt, Val, Definitions, body, any_type}
 use Rattle.xd_syntax.specs.Placed.{PlacedTree, Empty_at, Text_at, Words_at, Name_at, Elem_at, Seq_at, Alt_at, Star_at, Plus_at, Opt_at, Val_at, unplaced}
 use Rattle.xd_syntax.specs.Program.{TypeDefinition, ProgramTree, names_of}
 use Rattle.xd_syntax.specs.RecursionFaults.{Use, not_tail, behind_type, top_uses, AnyUse, placed_body, UsesAtTop, Leads, arrived, use_then, IsOutsideTail, UseIn, IsSound}
-use Rattle.xd_syntax.proofs.Members.{Among, append_left, append_right, mem_map, map_mem, mem_flat, flat_mem}
+use Rattle.xd_syntax.proofs.Members.{append_left, append_right, mem_map, map_mem, mem_flat, flat_mem}
 use Rattle.xd_laws.proofs.Pigeon.{NoRepeat, pigeon}
 use Rattle.xd_laws.proofs.SoundGuarded.{keeps_none, nothing_kept, pair_of, placed_definition, listed_use}
 use Rattle.xd_pattern_runs.specs.Runs.{Continuation}
@@ -51,11 +52,11 @@ depth (Plus T) = depth T + 1
 depth (Opt T) = depth T
 depth (Val x T) = depth T
 
-followed_mem : (u : NameUse) (us : List NameUse) → Among u us → Among (followed u) (map followed us)
+followed_mem : (u : NameUse) (us : List NameUse) → IsOneOf u us → IsOneOf (followed u) (map followed us)
 followed_mem u us m = map_mem followed u us m
 
 -- where all names are below m
-low_inner : (H : List ℕ → ℕ) (m : ℕ) (T : Tree) → ((u : NameUse) → Among u (uses_in T) → H u.0 ≤ m) → IsLow H (m + depth T) T
+low_inner : (H : List ℕ → ℕ) (m : ℕ) (T : Tree) → ((u : NameUse) → IsOneOf u (uses_in T) → H u.0 ≤ m) → IsLow H (m + depth T) T
 low_inner H m Empty h = tt
 low_inner H m Text h = tt
 low_inner H m (Words w) h = tt
@@ -77,8 +78,8 @@ low_inner H m (Opt T) h = low_inner H m T h
 low_inner H m (Val x T) h = low_inner H m T h
 
 -- where names that something follows are below m, and the others below b
-low_outer : (H : List ℕ → ℕ) (m b w : ℕ) → m + w ≤ b → (T : Tree) → depth T ≤ w → ((u : NameUse) → Among u (uses_in T) → H u.0 ≤ b) →
-    ((y : List ℕ) → Among (y, false) (uses_in T) → H y ≤ m) → IsLow H b T
+low_outer : (H : List ℕ → ℕ) (m b w : ℕ) → m + w ≤ b → (T : Tree) → depth T ≤ w → ((u : NameUse) → IsOneOf u (uses_in T) → H u.0 ≤ b) →
+    ((y : List ℕ) → IsOneOf (y, false) (uses_in T) → H y ≤ m) → IsLow H b T
 low_outer H m b w r Empty d h k = tt
 low_outer H m b w r Text d h k = tt
 low_outer H m b w r (Words c) d h k = tt
@@ -101,15 +102,15 @@ low_outer H m b w r (Val x T) d h k = low_outer H m b w r T d h k
 
 -- words of lists
 
-word_among : (xs : List (List ℕ)) (x : List ℕ) → has_word xs x ≡ true → Among x xs
+word_among : (xs : List (List ℕ)) (x : List ℕ) → has_word xs x ≡ true → IsOneOf x xs
 word_among [] x h = cc
 word_among (y ∷ xs) x h = go (bytes_eq y x) refl h (word_among xs x)
   where
-    go : (b : Bool) → bytes_eq y x ≡ b → (b || has_word xs x) ≡ true → (has_word xs x ≡ true → Among x xs) → Among x (y ∷ xs)
+    go : (b : Bool) → bytes_eq y x ≡ b → (b || has_word xs x) ≡ true → (has_word xs x ≡ true → IsOneOf x xs) → IsOneOf x (y ∷ xs)
     go true e k rec = inl ((bytes_eq-Decides y x).0 e)
     go false e k rec = inr (rec k)
 
-among_word : (xs : List (List ℕ)) (x : List ℕ) → Among x xs → has_word xs x ≡ true
+among_word : (xs : List (List ℕ)) (x : List ℕ) → IsOneOf x xs → has_word xs x ≡ true
 among_word [] x m = absurd m
 among_word (y ∷ xs) x (inl e) = ap (λ b. b || has_word xs x) ((bytes_eq-Decides y x).1 e)
 among_word (y ∷ xs) x (inr m) = go (bytes_eq y x) (among_word xs x m)
@@ -129,13 +130,13 @@ next_names E x = names_used (body E x)
 
 data Goes (E : Definitions) : List ℕ → List ℕ → Type 0 where
   goes_none : {x : List ℕ} → Goes E x x
-  goes_on : {x y z : List ℕ} → Among y (next_names E x) → Goes E y z → Goes E x z
+  goes_on : {x y z : List ℕ} → IsOneOf y (next_names E x) → Goes E y z → Goes E x z
 
 abbrev led_to : Definitions → ℕ → List ℕ → List (List ℕ)
 led_to E zero x = x ∷ []
 led_to E (suc n) x = x ∷ flat_map (led_to E n) (next_names E x)
 
-led_goes : (E : Definitions) (n : ℕ) (x z : List ℕ) → Among z (led_to E n x) → Goes E x z
+led_goes : (E : Definitions) (n : ℕ) (x z : List ℕ) → IsOneOf z (led_to E n x) → Goes E x z
 led_goes E zero x z (inl e) = subst (Goes E x) e goes_none
 led_goes E zero x z (inr m) = absurd m
 led_goes E (suc n) x z (inl e) = subst (Goes E x) e goes_none
@@ -144,9 +145,9 @@ led_goes E (suc n) x z (inr m) = let r = mem_flat (led_to E n) z (next_names E x
 -- a walk through these names
 abbrev IsWalk : Definitions → List ℕ → List (List ℕ) → List ℕ → Type 0
 IsWalk E x [] z = x ≡ z
-IsWalk E x (v ∷ V) z = (v ≡ x) × ((y : List ℕ) × Among y (next_names E x) × IsWalk E y V z)
+IsWalk E x (v ∷ V) z = (v ≡ x) × ((y : List ℕ) × IsOneOf y (next_names E x) × IsWalk E y V z)
 
-walk_led : (E : Definitions) (V : List (List ℕ)) (n : ℕ) (x z : List ℕ) → IsWalk E x V z → length V ≤ n → Among z (led_to E n x)
+walk_led : (E : Definitions) (V : List (List ℕ)) (n : ℕ) (x z : List ℕ) → IsWalk E x V z → length V ≤ n → IsOneOf z (led_to E n x)
 walk_led E [] zero x z w h = inl w
 walk_led E [] (suc n) x z w h = inl w
 walk_led E (v ∷ V) zero x z w h = absurd (omega arith)
@@ -157,7 +158,7 @@ walk_led E (v ∷ V) (suc n) x z w h =
 abbrev Simple : Definitions → List ℕ → List ℕ → Type 0
 Simple E x z = (V : List (List ℕ)) × IsWalk E x V z × NoRepeat V
 
-cut : (E : Definitions) (V : List (List ℕ)) (x y z : List ℕ) → IsWalk E y V z → NoRepeat V → Among x V → Simple E x z
+cut : (E : Definitions) (V : List (List ℕ)) (x y z : List ℕ) → IsWalk E y V z → NoRepeat V → IsOneOf x V → Simple E x z
 cut E [] x y z w n m = absurd m
 cut E (v ∷ V) x y z w n (inl e) = let s : y ≡ x = sym w.0 ∙ e in (v ∷ V, subst (λ q. IsWalk E q (v ∷ V) z) s w, n)
 cut E (v ∷ V) x y z w n (inr m) = cut E V x (w.1).0 z (w.1).2 n.1 m
@@ -176,25 +177,25 @@ simple E (goes_on {x} {y} {z} m g) = go (simple E g)
 keys : Definitions → List (List ℕ)
 keys E = map (λ (p : List ℕ × Tree). p.0) E
 
-has_key : (E : Definitions) (x : List ℕ) (T : Tree) → body E x ≡ Some T → Among x (keys E)
+has_key : (E : Definitions) (x : List ℕ) (T : Tree) → body E x ≡ Some T → IsOneOf x (keys E)
 unfolding keys
 has_key [] x T h = cc
 has_key (p ∷ E) x T h = go (bytes_eq p.0 x) refl h (has_key E x T)
   where
-    go : (b : Bool) → bytes_eq p.0 x ≡ b → cond b (Some p.1) (body E x) ≡ Some T → (body E x ≡ Some T → Among x (keys E)) → Among x (keys (p ∷ E))
+    go : (b : Bool) → bytes_eq p.0 x ≡ b → cond b (Some p.1) (body E x) ≡ Some T → (body E x ≡ Some T → IsOneOf x (keys E)) → IsOneOf x (keys (p ∷ E))
     go true e k rec = inl ((bytes_eq-Decides p.0 x).0 e)
     go false e k rec = inr (rec k)
 
-used_key : (E : Definitions) (x y : List ℕ) (o : Option Tree) → body E x ≡ o → Among y (names_used o) → Among x (keys E)
+used_key : (E : Definitions) (x y : List ℕ) (o : Option Tree) → body E x ≡ o → IsOneOf y (names_used o) → IsOneOf x (keys E)
 used_key E x y None e m = absurd m
 used_key E x y (Some T) e m = has_key E x T e
 
-walk_keys : (E : Definitions) (V : List (List ℕ)) (x z : List ℕ) → IsWalk E x V z → (v : List ℕ) → Among v V → Among v (keys E)
+walk_keys : (E : Definitions) (V : List (List ℕ)) (x z : List ℕ) → IsWalk E x V z → (v : List ℕ) → IsOneOf v V → IsOneOf v (keys E)
 walk_keys E [] x z w v m = absurd m
-walk_keys E (u ∷ V) x z w v (inl e) = subst (λ q. Among q (keys E)) (sym w.0 ∙ e) (used_key E x (w.1).0 (body E x) refl (w.1).1)
+walk_keys E (u ∷ V) x z w v (inl e) = subst (λ q. IsOneOf q (keys E)) (sym w.0 ∙ e) (used_key E x (w.1).0 (body E x) refl (w.1).1)
 walk_keys E (u ∷ V) x z w v (inr m) = walk_keys E V (w.1).0 z (w.1).2 v m
 
-goes_led : (E : Definitions) {x z : List ℕ} → Goes E x z → Among z (led_to E (length E) x)
+goes_led : (E : Definitions) {x z : List ℕ} → Goes E x z → IsOneOf z (led_to E (length E) x)
 unfolding keys
 goes_led E {x} {z} g =
     let s = simple E g in
@@ -220,7 +221,7 @@ count_le : (R S ks : List (List ℕ)) → ((k : List ℕ) → has_word R k ≡ t
 count_le R S [] h = omega arith
 count_le R S (k ∷ ks) h = let i = counts R S k (h k) in let j = count_le R S ks h in omega arith
 
-count_lt : (R S ks : List (List ℕ)) → ((k : List ℕ) → has_word R k ≡ true → has_word S k ≡ true) → (x : List ℕ) → Among x ks → has_word R x ≡ false → has_word S x ≡ true →
+count_lt : (R S ks : List (List ℕ)) → ((k : List ℕ) → has_word R k ≡ true → has_word S k ≡ true) → (x : List ℕ) → IsOneOf x ks → has_word R x ≡ false → has_word S x ≡ true →
     count_in R ks + 1 ≤ count_in S ks
 count_lt R S [] h x m a b = absurd m
 count_lt R S (k ∷ ks) h x (inl e) a b =
@@ -245,7 +246,7 @@ depth_within (p ∷ E) x T e = go (bytes_eq p.0 x) e (depth_within E x T)
 
 -- no name that something follows leads back
 abbrev NoneLeadsBack : Definitions → Type 0
-NoneLeadsBack E = (x y : List ℕ) (T : Tree) → body E x ≡ Some T → Among (y, false) (uses_in T) → Goes E y x → ⊥
+NoneLeadsBack E = (x y : List ℕ) (T : Tree) → body E x ≡ Some T → IsOneOf (y, false) (uses_in T) → Goes E y x → ⊥
 
 -- how many definitions a name leads to
 pub rank : Definitions → List ℕ → ℕ
@@ -256,17 +257,17 @@ abbrev pub height : Definitions → List ℕ → ℕ
 height E x = (rank E x + 1) * depths E
 
 module _ (E : Definitions) (back : NoneLeadsBack E) where
-  uses_next : (x : List ℕ) (T : Tree) → body E x ≡ Some T → (u : NameUse) → Among u (uses_in T) → Among u.0 (next_names E x)
-  uses_next x T e u m = subst (λ o. Among u.0 (names_used o)) (sym e) (map_mem (λ (v : NameUse). v.0) u (uses_in T) m)
+  uses_next : (x : List ℕ) (T : Tree) → body E x ≡ Some T → (u : NameUse) → IsOneOf u (uses_in T) → IsOneOf u.0 (next_names E x)
+  uses_next x T e u m = subst (λ o. IsOneOf u.0 (names_used o)) (sym e) (map_mem (λ (v : NameUse). v.0) u (uses_in T) m)
 
-  led_more : (x y : List ℕ) → Among y (next_names E x) → (k : List ℕ) → has_word (led_to E (length E) y) k ≡ true → has_word (led_to E (length E) x) k ≡ true
+  led_more : (x y : List ℕ) → IsOneOf y (next_names E x) → (k : List ℕ) → has_word (led_to E (length E) y) k ≡ true → has_word (led_to E (length E) x) k ≡ true
   led_more x y m k h = among_word _ k (goes_led E (goes_on m (led_goes E (length E) y k (word_among _ k h))))
 
-  rank_le : (x y : List ℕ) → Among y (next_names E x) → rank E y ≤ rank E x
+  rank_le : (x y : List ℕ) → IsOneOf y (next_names E x) → rank E y ≤ rank E x
   unfolding rank
   rank_le x y m = count_le (led_to E (length E) y) (led_to E (length E) x) (keys E) (led_more x y m)
 
-  rank_lt : (x y : List ℕ) (T : Tree) → body E x ≡ Some T → Among (y, false) (uses_in T) → rank E y + 1 ≤ rank E x
+  rank_lt : (x y : List ℕ) (T : Tree) → body E x ≡ Some T → IsOneOf (y, false) (uses_in T) → rank E y + 1 ≤ rank E x
   unfolding rank
   rank_lt x y T e m =
       count_lt (led_to E (length E) y) (led_to E (length E) x) (keys E) (led_more x y (uses_next x T e (y, false) m)) x (has_key E x T e)
@@ -307,23 +308,23 @@ placed_uses (Plus_at p T) = uses_followed (top_uses T) ∙ ap (map followed) (pl
 placed_uses (Opt_at p T) = placed_uses T
 placed_uses (Val_at p x q T) = placed_uses T
 
-found_use : (T : PlacedTree) (u : NameUse) → Among u (uses_in (unplaced T)) → (v : Use) × Among v (top_uses T) × (use_of v ≡ u)
-found_use T u m = mem_map use_of u (top_uses T) (subst (Among u) (sym (placed_uses T)) m)
+found_use : (T : PlacedTree) (u : NameUse) → IsOneOf u (uses_in (unplaced T)) → (v : Use) × IsOneOf v (top_uses T) × (use_of v ≡ u)
+found_use T u m = mem_map use_of u (top_uses T) (subst (IsOneOf u) (sym (placed_uses T)) m)
 
 -- a name of a definition, as a use of the program
-use_at : (P : ProgramTree) (x : List ℕ) (T : Tree) (u : NameUse) → body (names_of P) x ≡ Some T → Among u (uses_in T) →
-    (t : TypeDefinition) × (v : Use) × Among t P.types × (t.name ≡ x) × Among v (top_uses t.body) × (use_of v ≡ u) × (placed_body P.types x ≡ Some t.body)
+use_at : (P : ProgramTree) (x : List ℕ) (T : Tree) (u : NameUse) → body (names_of P) x ≡ Some T → IsOneOf u (uses_in T) →
+    (t : TypeDefinition) × (v : Use) × IsOneOf t P.types × (t.name ≡ x) × IsOneOf v (top_uses t.body) × (use_of v ≡ u) × (placed_body P.types x ≡ Some t.body)
 use_at P x T u e m = go (bytes_eq any_word x) e
   where
     go : (b : Bool) → cond b (Some any_type) (body (map pair_of P.types) x) ≡ Some T →
-        (t : TypeDefinition) × (v : Use) × Among t P.types × (t.name ≡ x) × Among v (top_uses t.body) × (use_of v ≡ u) × (placed_body P.types x ≡ Some t.body)
-    go true k = let q : any_type ≡ T = cc in absurd (subst (λ U. Among u (uses_in U)) (sym q) m)
+        (t : TypeDefinition) × (v : Use) × IsOneOf t P.types × (t.name ≡ x) × IsOneOf v (top_uses t.body) × (use_of v ≡ u) × (placed_body P.types x ≡ Some t.body)
+    go true k = let q : any_type ≡ T = cc in absurd (subst (λ U. IsOneOf u (uses_in U)) (sym q) m)
     go false k =
         let r = placed_definition P.types x T k in
-        let v = found_use (r.0).body u (subst (λ U. Among u (uses_in U)) (sym r.4) m) in
+        let v = found_use (r.0).body u (subst (λ U. IsOneOf u (uses_in U)) (sym r.4) m) in
         (r.0, v.0, r.1, r.2, v.1, v.2, r.3)
 
-next_use : (P : ProgramTree) (x y : List ℕ) (o : Option Tree) → body (names_of P) x ≡ o → Among y (names_used o) → UsesAtTop P AnyUse x y
+next_use : (P : ProgramTree) (x y : List ℕ) (o : Option Tree) → body (names_of P) x ≡ o → IsOneOf y (names_used o) → UsesAtTop P AnyUse x y
 next_use P x y None e m = absurd m
 next_use P x y (Some T) e m =
     let q = mem_map (λ (u : NameUse). u.0) y (uses_in T) m in

@@ -4,11 +4,12 @@ use Rattle.std.proofs.Common.{◌≡◌, ℕ, ◌≤◌, arith, Bool, cond, not,
 use Rattle.std.proofs.Math.Path.{fun_ext}
 use Rattle.xd_doc.specs.Document.{Document, empty, text, element, join, has_item}
 use Rattle.xd_doc.specs.Classes.{LabelClass, class_has, TextClass}
+use Rattle.xd_doc.specs.Members.{IsOneOf}
 use Rattle.xd_doc.proofs.Joins.{join_empty-right, join_assoc}
 use Rattle.xd_doc.proofs.Lists.{append_none}
 use Rattle.xd_syntax.specs.Words.{has_word}
 use Rattle.xd_syntax.specs.Tree.{Definitions}
-use Rattle.xd_syntax.specs.Ways.{Way, item_count, unfoldings, ways, Among}
+use Rattle.xd_syntax.specs.Ways.{Way, item_count, unfoldings, ways}
 use Rattle.xd_laws.proofs.Documents.{item_count_le}
 use Rattle.xd_syntax.proofs.Members.{mem_flat, mem_map, flat_same}
 use Rattle.xd_laws.proofs.WaysFit.{sound}
@@ -60,7 +61,7 @@ bind_bind W V L =
     ∙ sym (map_of_map (and_next v) (and_next u) (W u.rest)))
     ∙ sym (map_of_flat (and_next v) (then_each W) (V v.rest)))
 
-pub bind_each : (W V : Document → List Partial) (L : List Partial) → ((v : Partial) → Among v L → W v.rest ≡ V v.rest) → bind W L ≡ bind V L
+pub bind_each : (W V : Document → List Partial) (L : List Partial) → ((v : Partial) → IsOneOf v L → W v.rest ≡ V v.rest) → bind W L ≡ bind V L
 bind_each W V L h = flat_same (then_each W) (then_each V) L (λ v m. ap (map (and_next v)) (h v m))
 
 -- what a way of a part holds, where the part stands in the binders of the marked variables
@@ -84,7 +85,7 @@ means_append E (p ∷ K) L d =
     ∙ sym (bind_bind (means E L) (means E K) (piece_means E p d))
 
 -- what is left has no more items
-pub means_within : (E : Definitions) (K : Continuation) (d : Document) (v : Partial) → Among v (means E K d) → item_count v.rest ≤ item_count d
+pub means_within : (E : Definitions) (K : Continuation) (d : Document) (v : Partial) → IsOneOf v (means E K d) → item_count v.rest ≤ item_count d
 means_within E [] d v (inl e) = let i : item_count d ≡ item_count v.rest = ap (λ (p : Partial). item_count p.rest) e in omega arith
 means_within E [] d v (inr m) = absurd m
 means_within E (p ∷ K) d v m =
@@ -139,12 +140,12 @@ place_one E K cs d (take_text w xs R) h = alike_same (behind E R K (text_parts w
 place_one E K cs d (take_element c C xs R) h = alike_same (behind E R K (element_parts E c C xs d))
 
 -- the choices with pieces after them do what the pieces do after the choices
-pub place : (E : Definitions) (K : Continuation) (cs : List Choice) (d : Document) (bs : List Choice) → (Among stop bs → Alike (all_do E d cs) (means E K d)) →
+pub place : (E : Definitions) (K : Continuation) (cs : List Choice) (d : Document) (bs : List Choice) → (IsOneOf stop bs → Alike (all_do E d cs) (means E K d)) →
     Alike (all_do E d (then_choices bs K cs)) (bind (means E K) (all_do E d bs))
 place E K cs d bs h =
     alike_trans (alike_same (flat_flat (does E d) (in_place K cs) bs))
     (alike_trans
-    (alike_each (λ b. all_do E d (in_place K cs b)) (λ b. bind (means E K) (does E d b)) bs (λ b m. place_one E K cs d b (λ e. h (subst (λ c. Among c bs) e m))))
+    (alike_each (λ b. all_do E d (in_place K cs b)) (λ b. bind (means E K) (does E d b)) bs (λ b m. place_one E K cs d b (λ e. h (subst (λ c. IsOneOf c bs) e m))))
     (alike_same (sym (flat_flat (then_each (means E K)) (does E d) bs))))
 
 stops_more : (E : Definitions) (d : Document) (L : List Partial) (c : Choice) (fewer cs : List Choice) →

@@ -1,11 +1,11 @@
 -- The runs from a state are those of what stands ahead of it.
 use Rattle.xd_pattern_runs.proofs.Factor.{stop_there}
-use Rattle.xd_syntax.specs.Ways.{Among}
 use Rattle.std.specs.List.{AllZip}
 use Rattle.std.proofs.Common.{◌≡◌, ℕ, Bool, true, false, cond, List, [], ◌∷◌, map, flat_map, Some, ap, sym, ◌∙◌, refl, inl, inr}
 use Rattle.xd_doc.specs.Document.{Document, empty, text, element}
 use Rattle.xd_doc.specs.Classes.{class_has}
 use Rattle.xd_doc.specs.Runs.{at_end, at_text, at_element}
+use Rattle.xd_doc.specs.Members.{IsOneOf}
 use Rattle.xd_syntax.specs.Tree.{Tree, Definitions}
 use Rattle.xd_laws.specs.Guarded.{Guarded}
 use Rattle.xd_pattern_runs.specs.Runs.{Continuation, start, TextMove, ElementMove, Moves, choices, texts_of, elements_of, text_runs, element_runs, runs_by, runs, Choice, stop, take_text, take_element, has_stop}
@@ -25,7 +25,7 @@ zip_alike Q f g h (x ∷ xs) [] a = absurd a
 zip_alike Q f g h (x ∷ xs) (y ∷ ys) a = alike_append (h x y a.0) (zip_alike Q f g h xs ys a.1)
 
 -- lists that are alike have a stop both, or none
-stop_has : (cs : List Choice) → Among stop cs → has_stop cs ≡ true
+stop_has : (cs : List Choice) → IsOneOf stop cs → has_stop cs ≡ true
 stop_has [] m = absurd m
 stop_has (stop ∷ cs) m = refl
 stop_has (take_text w xs R ∷ cs) (inl e) = cc

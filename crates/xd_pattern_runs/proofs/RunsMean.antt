@@ -6,9 +6,9 @@ use Rattle.xd_doc.specs.Classes.{class_has}
 use Rattle.xd_doc.proofs.Joins.{join_assoc}
 use Rattle.xd_doc.proofs.Lists.{append_none}
 use Rattle.xd_doc.specs.Runs.{at_end, at_text, at_element, held}
+use Rattle.xd_doc.specs.Members.{IsOneOf}
 use Rattle.xd_syntax.specs.Tree.{Tree, Empty, Text, Words, Name, Elem, Seq, Alt, Star, Plus, Opt, Val, Definitions, body}
 use Rattle.xd_meaning.specs.Heads.{all_texts}
-use Rattle.xd_syntax.specs.Ways.{Among}
 use Rattle.xd_laws.specs.Guarded.{Guarded}
 use Rattle.xd_syntax.proofs.Members.{mem_append, mem_flat, flat_same}
 use Rattle.xd_pattern_runs.specs.Runs.{Piece, Continuation, Choice, stop, take_text, take_element, start, in_place, then_choices, one_stop, has_stop, turn_choices, some_turn_choices, choices_by, choices_of_definition, choices_of_name, choices_within, choices, MarkedRun, TextMove, ElementMove, texts_of, elements_of, text_runs, element_runs, runs, if_marked, trace}
@@ -26,7 +26,7 @@ IsFineChoice (take_text w xs R) = AreFine R
 IsFineChoice (take_element c C xs R) = AreFine C × AreFine R
 
 abbrev pub AllFine : List Choice → Type 0
-AllFine cs = (c : Choice) → Among c cs → IsFineChoice c
+AllFine cs = (c : Choice) → IsOneOf c cs → IsFineChoice c
 
 pub fine_start : (T : Tree) → IsApart T → AreFine (start T)
 fine_start T a = ((a, λ x h. cc), tt)

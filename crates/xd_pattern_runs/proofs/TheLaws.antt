@@ -8,11 +8,12 @@ use Rattle.std.specs.Str.{bytes_eq}
 use Rattle.std.proofs.lemmas.Slice.Eq.{bytes_eq-Decides}
 use Rattle.xd_doc.specs.Document.{Document, empty}
 use Rattle.xd_doc.specs.Runs.{held}
+use Rattle.xd_doc.specs.Members.{IsOneOf}
 use Rattle.xd_syntax.specs.Words.{has_word}
 use Rattle.xd_syntax.specs.Tree.{Tree, Empty, Text, Words, Name, Elem, Seq, Alt, Star, Plus, Opt, Val, Definitions, occurrences}
 use Rattle.xd_laws.specs.Laws.{bare}
 use Rattle.xd_syntax.specs.Fits.{Fits}
-use Rattle.xd_syntax.specs.Ways.{Way, Among, IsWholeWay, is_whole, ways}
+use Rattle.xd_syntax.specs.Ways.{Way, IsWholeWay, is_whole, ways}
 use Rattle.xd_meaning.specs.FirstMatch.{first, first_whole}
 use Rattle.xd_laws.specs.Guarded.{Guarded}
 use Rattle.xd_meaning.specs.Meaning.{looked_up}
@@ -107,7 +108,7 @@ first_of_apart E P d rs h = first_joined d rs (first E P d) (h.first (λ k. Some
 one_joined : (ds : List Document) (e h : Document) → ds ≡ e ∷ [] → joined ds ≡ h → ds ≡ h ∷ []
 one_joined ds e h i j = i ∙ ap (λ z. z ∷ []) (sym (join_empty-right e) ∙ sym (ap joined i) ∙ j)
 
-agrees : (E : Definitions) → BindNothing E → (P : Tree) → IsLinear P → (d : Document) (r : MarkedRun) (w : Way) → Among w (ways E P d) → AgreeJoined d r w.bindings → Agree (occurrences P) d r w.bindings
+agrees : (E : Definitions) → BindNothing E → (P : Tree) → IsLinear P → (d : Document) (r : MarkedRun) (w : Way) → IsOneOf w (ways E P d) → AgreeJoined d r w.bindings → Agree (occurrences P) d r w.bindings
 agrees E none P l d r w m h x = go (has_word (occurrences P) x) refl
   where
     go : (b : Bool) → has_word (occurrences P) x ≡ b → given x w.bindings ≡ cond b (held d (trace x r) ∷ []) []
@@ -120,12 +121,12 @@ pub given_never : GivenNever
 given_never x [] h = (refl, λ f m. m)
 given_never x (b ∷ bs) h = go (bytes_eq b.0 x) refl h (given_never x bs)
   where
-    go : (t : Bool) → bytes_eq b.0 x ≡ t → cond t (b.1 ∷ given x bs) (given x bs) ≡ [] → (given x bs ≡ [] → (looked_up bs x ≡ None) × ((f : Document) → Among (x, f) bs → ⊥)) →
-        (cond t (Some b.1) (looked_up bs x) ≡ None) × ((f : Document) → Among (x, f) (b ∷ bs) → ⊥)
+    go : (t : Bool) → bytes_eq b.0 x ≡ t → cond t (b.1 ∷ given x bs) (given x bs) ≡ [] → (given x bs ≡ [] → (looked_up bs x ≡ None) × ((f : Document) → IsOneOf (x, f) bs → ⊥)) →
+        (cond t (Some b.1) (looked_up bs x) ≡ None) × ((f : Document) → IsOneOf (x, f) (b ∷ bs) → ⊥)
     go true e k rec = cc
     go false e k rec = let r = rec k in (r.0, λ f m. other f m r.1)
       where
-        other : (f : Document) → Among (x, f) (b ∷ bs) → ((g : Document) → Among (x, g) bs → ⊥) → ⊥
+        other : (f : Document) → IsOneOf (x, f) (b ∷ bs) → ((g : Document) → IsOneOf (x, g) bs → ⊥) → ⊥
         other f (inl i) n = let s : bytes_eq b.0 x ≡ true = (bytes_eq-Decides b.0 x).1 (ap (λ (q : List ℕ × Document). q.0) i) in cc
         other f (inr m) n = n f m
 
@@ -137,29 +138,29 @@ given_once x (b ∷ bs) e h = go (bytes_eq b.0 x) refl h (given_once x bs e)
     first_of ds k = (cc, cc)
 
     go : (t : Bool) → bytes_eq b.0 x ≡ t → cond t (b.1 ∷ given x bs) (given x bs) ≡ e ∷ [] →
-        (given x bs ≡ e ∷ [] → (looked_up bs x ≡ Some e) × ((f : Document) → Among (x, f) bs ↔ (f ≡ e))) →
-        (cond t (Some b.1) (looked_up bs x) ≡ Some e) × ((f : Document) → Among (x, f) (b ∷ bs) ↔ (f ≡ e))
+        (given x bs ≡ e ∷ [] → (looked_up bs x ≡ Some e) × ((f : Document) → IsOneOf (x, f) bs ↔ (f ≡ e))) →
+        (cond t (Some b.1) (looked_up bs x) ≡ Some e) × ((f : Document) → IsOneOf (x, f) (b ∷ bs) ↔ (f ≡ e))
     go true q k rec =
         let s = first_of (given x bs) k in
         let n = given_never x bs s.1 in
         (ap Some s.0, λ f. (λ m. here f m s.0 n.1, λ i. inl (ap (λ z. (z, b.1)) ((bytes_eq-Decides b.0 x).0 q) ∙ ap (λ z. (x, z)) (s.0 ∙ sym i))))
       where
-        here : (f : Document) → Among (x, f) (b ∷ bs) → b.1 ≡ e → ((g : Document) → Among (x, g) bs → ⊥) → f ≡ e
+        here : (f : Document) → IsOneOf (x, f) (b ∷ bs) → b.1 ≡ e → ((g : Document) → IsOneOf (x, g) bs → ⊥) → f ≡ e
         here f (inl i) s n = sym (ap (λ (z : List ℕ × Document). z.1) i) ∙ s
         here f (inr m) s n = absurd (n f m)
     go false q k rec =
         let r = rec k in (r.0, λ f. (λ m. there f m (r.1 f).0, λ i. inr ((r.1 f).1 i)))
       where
-        there : (f : Document) → Among (x, f) (b ∷ bs) → (Among (x, f) bs → f ≡ e) → f ≡ e
+        there : (f : Document) → IsOneOf (x, f) (b ∷ bs) → (IsOneOf (x, f) bs → f ≡ e) → f ≡ e
         there f (inl i) n = let s : bytes_eq b.0 x ≡ true = (bytes_eq-Decides b.0 x).1 (ap (λ (z : List ℕ × Document). z.0) i) in cc
         there f (inr m) n = n m
 
-first_is_way : (ws : List Way) (bs : List (List ℕ × Document)) → first_whole ws ≡ Some bs → (w : Way) × Among w ws × (w.bindings ≡ bs)
+first_is_way : (ws : List Way) (bs : List (List ℕ × Document)) → first_whole ws ≡ Some bs → (w : Way) × IsOneOf w ws × (w.bindings ≡ bs)
 first_is_way [] bs e = cc
 first_is_way (w ∷ ws) bs e = go (is_whole w) e (first_is_way ws bs)
   where
-    go : (b : Bool) → cond b (Some w.bindings) (first_whole ws) ≡ Some bs → (first_whole ws ≡ Some bs → (v : Way) × Among v ws × (v.bindings ≡ bs)) →
-        (v : Way) × Among v (w ∷ ws) × (v.bindings ≡ bs)
+    go : (b : Bool) → cond b (Some w.bindings) (first_whole ws) ≡ Some bs → (first_whole ws ≡ Some bs → (v : Way) × IsOneOf v ws × (v.bindings ≡ bs)) →
+        (v : Way) × IsOneOf v (w ∷ ws) × (v.bindings ≡ bs)
     go true k rec = (w, inl refl, cc)
     go false k rec = let r = rec k in (r.0, inr r.1, r.2)
 
@@ -199,23 +200,23 @@ module _ (E : Definitions) (guarded : Guarded E) (none : BindNothing E) (P : Tre
   pub first_is_first : option_map (run_bindings (variables_of P) d) (first_of rs) ≡ first_bindings E P d
   first_is_first = first_binds E P d rs (first E P d) (first_agree E none P l d rs (first E P d) refl (first_of_apart E P d rs h))
 
-  pub run_is_way : (r : MarkedRun) → Among r rs → (w : Way) × IsWholeWay E P d w × Agree (occurrences P) d r w.bindings
+  pub run_is_way : (r : MarkedRun) → IsOneOf r rs → (w : Way) × IsWholeWay E P d w × Agree (occurrences P) d r w.bindings
   run_is_way r m =
       let q = mem_flat whole_one (outcome d r) (ways E P d) (h.into (outcome d r) (map_mem (outcome d) r rs m)) in
       let c = cond_true (is_whole q.0) (outcome d r) _ q.2 in
       (q.0, (q.1, c.0), agrees E none P l d r q.0 q.1 (same q.0 c.1))
     where
-      same : (w : Way) → Among (outcome d r) (gives w.bindings ∷ []) → AgreeJoined d r w.bindings
+      same : (w : Way) → IsOneOf (outcome d r) (gives w.bindings ∷ []) → AgreeJoined d r w.bindings
       same w (inl e) = λ x. ap (λ (k : Holding). k x) e
       same w (inr o) = absurd o
 
-  pub way_is_run : (w : Way) → IsWholeWay E P d w → (r : MarkedRun) × Among r rs × Agree (occurrences P) d r w.bindings
+  pub way_is_run : (w : Way) → IsWholeWay E P d w → (r : MarkedRun) × IsOneOf r rs × Agree (occurrences P) d r w.bindings
   way_is_run w m =
       let i = flat_mem whole_one (gives w.bindings) w (ways E P d) m.0 (cond_in (is_whole w) (gives w.bindings) (gives w.bindings ∷ []) m.1 (inl refl)) in
       let q = mem_map (outcome d) (gives w.bindings) rs (h.back (gives w.bindings) i) in
       (q.0, q.1, agrees E none P l d q.0 w m.0 (λ x. sym (ap (λ (k : Holding). k x) q.2)))
 
-  pub run_where_fits : ((r : MarkedRun) × Among r rs) ↔ Fits E (bare P) d
+  pub run_where_fits : ((r : MarkedRun) × IsOneOf r rs) ↔ Fits E (bare P) d
   run_where_fits = (
     λ t. let q = run_is_way t.0 t.1 in fits_bare E (takes_fits E P d (q.0, q.1)),
     λ f. let t = fits_takes E guarded P d (bare_fits E P d f) in let q = way_is_run t.0 t.1 in (q.0, q.1),

@@ -6,10 +6,10 @@ use Rattle.std.proofs.lemmas.Bool.{or_parts}
 use Rattle.xd_doc.specs.Document.{Document, empty, text, element}
 use Rattle.xd_doc.specs.Classes.{LabelClass, class_has, TextClass}
 use Rattle.xd_doc.specs.Runs.{at_end, at_text, at_element, IsFree, IsBlock, IsTogether}
+use Rattle.xd_doc.specs.Members.{IsOneOf}
 use Rattle.xd_syntax.specs.Words.{has_word}
 use Rattle.xd_syntax.specs.Tree.{Tree, Empty, Text, Words, Name, Elem, Seq, Alt, Star, Plus, Opt, Val, Definitions, body, occurrences}
 use Rattle.xd_meaning.specs.Heads.{all_texts}
-use Rattle.xd_syntax.specs.Ways.{Among}
 use Rattle.xd_syntax.proofs.Members.{mem_append, mem_map, mem_flat, cond_true}
 use Rattle.xd_laws.proofs.Unfoldings.{same_word_eq}
 use Rattle.xd_pattern_runs.specs.Runs.{Piece, Continuation, Choice, stop, take_text, take_element, start, in_place, then_choices, one_stop, has_stop, choices_by, choices_of_definition, choices_of_name, choices_within, choices, MarkedRun, texts_of, elements_of, text_runs, element_runs, runs, trace}
@@ -24,7 +24,7 @@ use Rattle.xd_pattern_runs.proofs.ClausesLaw.{no_word}
 -- choices that all have a property
 
 abbrev pub AllHave : (Choice → Type 0) → List Choice → Type 0
-AllHave Q cs = (c : Choice) → Among c cs → Q c
+AllHave Q cs = (c : Choice) → IsOneOf c cs → Q c
 
 pub have_one : (Q : Choice → Type 0) (d : Choice) → Q d → AllHave Q (d ∷ [])
 have_one Q d q c (inl e) = subst Q e q
@@ -310,15 +310,15 @@ abbrev TogetherOf : List ℕ → MarkedRun → Type 0
 TogetherOf x r = IsTogether (trace x r)
 
 abbrev AllRuns : (MarkedRun → Type 0) → List MarkedRun → Type 0
-AllRuns Q rs = (r : MarkedRun) → Among r rs → Q r
+AllRuns Q rs = (r : MarkedRun) → IsOneOf r rs → Q r
 
-run_one : (Q : MarkedRun → Type 0) (s r : MarkedRun) → Q s → Among r (s ∷ []) → Q r
+run_one : (Q : MarkedRun → Type 0) (s r : MarkedRun) → Q s → IsOneOf r (s ∷ []) → Q r
 run_one Q s r q (inl e) = subst Q e q
 run_one Q s r q (inr m) = absurd m
 
 -- the runs by a choice over a text, from those over the rest
 text_all : (Q : MarkedRun → Type 0) (R : Continuation → List MarkedRun) (t : List ℕ) (c : Choice) →
-    ((w : TextClass) (xs : List (List ℕ)) (K : Continuation) → c ≡ take_text w xs K → (r : MarkedRun) → Among r (R K) → Q (at_text xs r)) → AllRuns Q (by_text (text_runs R t) c)
+    ((w : TextClass) (xs : List (List ℕ)) (K : Continuation) → c ≡ take_text w xs K → (r : MarkedRun) → IsOneOf r (R K) → Q (at_text xs r)) → AllRuns Q (by_text (text_runs R t) c)
 text_all Q R t stop h r m = absurd m
 text_all Q R t (take_element c C xs K) h r m = absurd m
 text_all Q R t (take_text w xs K) h r m =
@@ -326,7 +326,7 @@ text_all Q R t (take_text w xs K) h r m =
     let q = mem_map (at_text xs) r (R K) a.1 in subst Q q.2 (h w xs K refl q.0 q.1)
 
 element_all : (Q : MarkedRun → Type 0) (I R : Continuation → List MarkedRun) (l : List ℕ) (c : Choice) →
-    ((k : LabelClass) (C : Continuation) (xs : List (List ℕ)) (K : Continuation) → c ≡ take_element k C xs K → (q r : MarkedRun) → Among q (I C) → Among r (R K) → Q (at_element xs q r)) →
+    ((k : LabelClass) (C : Continuation) (xs : List (List ℕ)) (K : Continuation) → c ≡ take_element k C xs K → (q r : MarkedRun) → IsOneOf q (I C) → IsOneOf r (R K) → Q (at_element xs q r)) →
     AllRuns Q (by_element (element_runs I R l) c)
 element_all Q I R l stop h r m = absurd m
 element_all Q I R l (take_text w xs K) h r m = absurd m
@@ -336,14 +336,14 @@ element_all Q I R l (take_element k C xs K) h r m =
     let q = mem_map (at_element xs p.0) r (R K) p.2 in
     subst Q q.2 (h k C xs K refl p.0 q.0 p.1 q.1)
 
-text_choice : (E : Definitions) (t : List ℕ) (d : Document) (K : Continuation) (r : MarkedRun) → Among r (flat_map (text_runs (runs E d) t) (texts_of (choices E K))) →
-    (c : Choice) × Among c (choices E K) × Among r (by_text (text_runs (runs E d) t) c)
-text_choice E t d K r m = mem_flat (by_text (text_runs (runs E d) t)) r (choices E K) (subst (Among r) (texts_flat (text_runs (runs E d) t) (choices E K)) m)
+text_choice : (E : Definitions) (t : List ℕ) (d : Document) (K : Continuation) (r : MarkedRun) → IsOneOf r (flat_map (text_runs (runs E d) t) (texts_of (choices E K))) →
+    (c : Choice) × IsOneOf c (choices E K) × IsOneOf r (by_text (text_runs (runs E d) t) c)
+text_choice E t d K r m = mem_flat (by_text (text_runs (runs E d) t)) r (choices E K) (subst (IsOneOf r) (texts_flat (text_runs (runs E d) t) (choices E K)) m)
 
-element_choice : (E : Definitions) (l : List ℕ) (k d : Document) (K : Continuation) (r : MarkedRun) → Among r (flat_map (element_runs (runs E k) (runs E d) l) (elements_of (choices E K))) →
-    (c : Choice) × Among c (choices E K) × Among r (by_element (element_runs (runs E k) (runs E d) l) c)
+element_choice : (E : Definitions) (l : List ℕ) (k d : Document) (K : Continuation) (r : MarkedRun) → IsOneOf r (flat_map (element_runs (runs E k) (runs E d) l) (elements_of (choices E K))) →
+    (c : Choice) × IsOneOf c (choices E K) × IsOneOf r (by_element (element_runs (runs E k) (runs E d) l) c)
 element_choice E l k d K r m =
-    mem_flat (by_element (element_runs (runs E k) (runs E d) l)) r (choices E K) (subst (Among r) (elements_flat (element_runs (runs E k) (runs E d) l) (choices E K)) m)
+    mem_flat (by_element (element_runs (runs E k) (runs E d) l)) r (choices E K) (subst (IsOneOf r) (elements_flat (element_runs (runs E k) (runs E d) l) (choices E K)) m)
 
 end_all : (Q : MarkedRun → Type 0) → Q at_end → (b : Bool) → AllRuns Q (cond b (at_end ∷ []) [])
 end_all Q q b r m = let a = cond_true b r (at_end ∷ []) m in run_one Q at_end r q a.1
@@ -364,12 +364,12 @@ module _ (E : Definitions) (none : BindNothing E) (x : List ℕ) where
       (w.0, free_runs k C w.1 q n, free_runs d L w.2 o i)) r p.2
 
   block_by_text : (d : Document) → ((K : Continuation) → IsOpen x K → AllRuns (BlockOf x) (runs E d K)) → (u : TextClass) (xs : List (List ℕ)) (L : Continuation) → StayOpen x (take_text u xs L) →
-      (q : MarkedRun) → Among q (runs E d L) → BlockOf x (at_text xs q)
+      (q : MarkedRun) → IsOneOf q (runs E d L) → BlockOf x (at_text xs q)
   block_by_text d h u xs L (inl w) q n = inl (w.0, h L w.1 q n)
   block_by_text d h u xs L (inr w) q n = inr (w.0, free_runs d L w.1 q n)
 
   block_by_element : (k d : Document) → ((K : Continuation) → IsOpen x K → AllRuns (BlockOf x) (runs E d K)) → (c : LabelClass) (C : Continuation) (xs : List (List ℕ)) (L : Continuation) →
-      StayOpen x (take_element c C xs L) → (q o : MarkedRun) → Among q (runs E k C) → Among o (runs E d L) → BlockOf x (at_element xs q o)
+      StayOpen x (take_element c C xs L) → (q o : MarkedRun) → IsOneOf q (runs E k C) → IsOneOf o (runs E d L) → BlockOf x (at_element xs q o)
   block_by_element k d h c C xs L (inl w) q o n i = inl (w.0, free_runs k C w.1 q n, h L w.2 o i)
   block_by_element k d h c C xs L (inr w) q o n i = inr (w.0, free_runs k C w.1 q n, free_runs d L w.2 o i)
 
@@ -385,13 +385,13 @@ module _ (E : Definitions) (none : BindNothing E) (x : List ℕ) where
       block_by_element k d (λ M g. block_runs d M g) c C xs L (subst (StayOpen x) e (open_within E none x (length E) K f p.0 p.1)) q o n i) r p.2
 
   together_by_text : (d : Document) → ((K : Continuation) → IsAhead x K → AllRuns (TogetherOf x) (runs E d K)) → (u : TextClass) (xs : List (List ℕ)) (L : Continuation) → StayAhead x (take_text u xs L) →
-      (q : MarkedRun) → Among q (runs E d L) → TogetherOf x (at_text xs q)
+      (q : MarkedRun) → IsOneOf q (runs E d L) → TogetherOf x (at_text xs q)
   together_by_text d h u xs L (inl w) q n = inr (w.0, h L w.1 q n)
   together_by_text d h u xs L (inr w) q n = inl (w.0, block_runs d L w.1 q n)
 
   together_by_element : (k d : Document) → ((K : Continuation) → IsAhead x K → AllRuns (TogetherOf x) (runs E k K)) → ((K : Continuation) → IsAhead x K → AllRuns (TogetherOf x) (runs E d K)) →
       (c : LabelClass) (C : Continuation) (xs : List (List ℕ)) (L : Continuation) →
-      StayAhead x (take_element c C xs L) → (q o : MarkedRun) → Among q (runs E k C) → Among o (runs E d L) → TogetherOf x (at_element xs q o)
+      StayAhead x (take_element c C xs L) → (q o : MarkedRun) → IsOneOf q (runs E k C) → IsOneOf o (runs E d L) → TogetherOf x (at_element xs q o)
   together_by_element k d g h c C xs L (inl w) q o n i = inr (w.0, inl (free_runs k C w.1 q n, h L w.2 o i))
   together_by_element k d g h c C xs L (inr (inl w)) q o n i = inl (w.0, free_runs k C w.1 q n, block_runs d L w.2 o i)
   together_by_element k d g h c C xs L (inr (inr w)) q o n i = inr (w.0, inr (g C w.1 q n, free_runs d L w.2 o i))

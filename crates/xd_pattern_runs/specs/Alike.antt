@@ -1,7 +1,7 @@
 -- Lists that are the same but for later repeats of their members.
 use Rattle.std.specs.Prelude.{◌≡◌, ℕ, List, [], ◌∷◌, Option, Some, None}
 use Rattle.xd_doc.specs.Document.{Document}
-use Rattle.xd_syntax.specs.Ways.{Among}
+use Rattle.xd_doc.specs.Members.{IsOneOf}
 
 -- what variables hold
 abbrev pub Holding : Type 0
@@ -19,5 +19,5 @@ pick f (x ∷ xs) = or_then (f x) (pick f xs)
 -- the lists have the same members, and whatever is looked for, the same one is the first
 pub record Alike {A : Type 0} (L M : List A) : Type 0 where
   pub first : (f : A → Option Holding) → pick f L ≡ pick f M
-  pub into : (x : A) → Among x L → Among x M
-  pub back : (x : A) → Among x M → Among x L
+  pub into : (x : A) → IsOneOf x L → IsOneOf x M
+  pub back : (x : A) → IsOneOf x M → IsOneOf x L

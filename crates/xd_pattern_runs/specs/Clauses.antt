@@ -1,9 +1,9 @@
 -- The patterns of a program's clauses, and their parts.
 use Rattle.std.specs.Prelude.{◌≡◌, ℕ, List, [], ◌∷◌, ◌++◌}
 use Rattle.xd_doc.specs.Classes.{LabelClass}
+use Rattle.xd_doc.specs.Members.{IsOneOf}
 use Rattle.xd_syntax.specs.Tree.{Tree, Elem, Seq, Alt, Star, Plus, Opt, Val}
 use Rattle.xd_syntax.specs.Placed.{PlacedTree, unplaced}
-use Rattle.xd_syntax.specs.Ways.{Among}
 use Rattle.xd_syntax.specs.Expression.{Expression, Nothing, Quoted, Variable, Tagged, Joined, Called, Matched, Arguments, no_argument, argument, Clauses, no_clause, clause}
 use Rattle.xd_syntax.specs.Program.{FunctionDefinition, ProgramTree}
 use Rattle.xd_syntax.specs.NameFaults.{name_faults}
@@ -47,4 +47,4 @@ abbrev mutual
 
 -- the patterns of a program without faults of names are linear
 abbrev pub ClausesAreLinear : Type 0
-ClausesAreLinear = (P : ProgramTree) → name_faults P ≡ [] → (f : FunctionDefinition) → Among f P.functions → (A : PlacedTree) → Among A (patterns_in f.body) → IsLinear (unplaced A)
+ClausesAreLinear = (P : ProgramTree) → name_faults P ≡ [] → (f : FunctionDefinition) → IsOneOf f P.functions → (A : PlacedTree) → IsOneOf A (patterns_in f.body) → IsLinear (unplaced A)

@@ -5,7 +5,7 @@ use Rattle.std.specs.List.{list_any}
 use Rattle.xd_doc.specs.Document.{Document, empty, text, element}
 use Rattle.xd_doc.specs.Classes.{class_has}
 use Rattle.xd_doc.specs.Runs.{at_end, at_text, at_element}
-use Rattle.xd_syntax.specs.Ways.{Among}
+use Rattle.xd_doc.specs.Members.{IsOneOf}
 use Rattle.xd_pattern_runs.specs.Runs.{TextMove, ElementMove, Moves, MarkedRun, runs_by}
 
 -- whether some run from the state takes the document
@@ -43,7 +43,7 @@ first_by M (element l c d) s = first_over_element (accepts_by M c) (first_by M c
 
 -- a document is accepted exactly where there is a run
 abbrev pub AcceptsByRuns : Type 0
-AcceptsByRuns = (M : ℕ → Moves ℕ) (d : Document) (s : ℕ) → (accepts_by M d s ≡ true) ↔ ((r : MarkedRun) × Among r (runs_by M d s))
+AcceptsByRuns = (M : ℕ → Moves ℕ) (d : Document) (s : ℕ) → (accepts_by M d s ≡ true) ↔ ((r : MarkedRun) × IsOneOf r (runs_by M d s))
 
 -- the run that takes the first move that can succeed is the first
 abbrev pub FirstMovesFirst : Type 0

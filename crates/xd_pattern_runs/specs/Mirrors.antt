@@ -4,10 +4,11 @@ use Rattle.std.specs.Prelude.{◌≡◌, ℕ, ◌↔◌, List, Option, Some, opt
 use Rattle.std.specs.List.{AllZip}
 use Rattle.xd_doc.specs.Document.{Document}
 use Rattle.xd_doc.specs.Runs.{IsTogether}
+use Rattle.xd_doc.specs.Members.{IsOneOf}
 use Rattle.xd_syntax.specs.Tree.{Tree, Definitions, occurrences}
 use Rattle.xd_laws.specs.Laws.{bare}
 use Rattle.xd_syntax.specs.Fits.{Fits}
-use Rattle.xd_syntax.specs.Ways.{Way, Among, IsWholeWay}
+use Rattle.xd_syntax.specs.Ways.{Way, IsWholeWay}
 use Rattle.xd_laws.specs.Guarded.{Guarded}
 use Rattle.xd_pattern_runs.specs.Alike.{Alike}
 use Rattle.xd_pattern_runs.specs.Runs.{Continuation, Choice, start, TextMove, ElementMove, Moves, choices, has_stop, texts_of, elements_of, MarkedRun, runs_by, trace}
@@ -43,10 +44,10 @@ pub record Mirrors {S : Type 0} (E : Definitions) (M : S → Moves S) (A : Ahead
 -- the runs from a state are those of a pattern
 pub record AreRunsOf {S : Type 0} (E : Definitions) (P : Tree) (M : S → Moves S) (s : S) : Type 0 where
   pub first_match : (d : Document) → option_map (run_bindings (variables_of P) d) (first_of (runs_by M d s)) ≡ first_bindings E P d
-  pub ways : (d : Document) (r : MarkedRun) → Among r (runs_by M d s) → (w : Way) × IsWholeWay E P d w × Agree (occurrences P) d r w.bindings
-  pub runs : (d : Document) (w : Way) → IsWholeWay E P d w → (r : MarkedRun) × Among r (runs_by M d s) × Agree (occurrences P) d r w.bindings
-  pub fits : (d : Document) → ((r : MarkedRun) × Among r (runs_by M d s)) ↔ Fits E (bare P) d
-  pub together : (d : Document) (r : MarkedRun) → Among r (runs_by M d s) → (x : List ℕ) → IsTogether (trace x r)
+  pub ways : (d : Document) (r : MarkedRun) → IsOneOf r (runs_by M d s) → (w : Way) × IsWholeWay E P d w × Agree (occurrences P) d r w.bindings
+  pub runs : (d : Document) (w : Way) → IsWholeWay E P d w → (r : MarkedRun) × IsOneOf r (runs_by M d s) × Agree (occurrences P) d r w.bindings
+  pub fits : (d : Document) → ((r : MarkedRun) × IsOneOf r (runs_by M d s)) ↔ Fits E (bare P) d
+  pub together : (d : Document) (r : MarkedRun) → IsOneOf r (runs_by M d s) → (x : List ℕ) → IsTogether (trace x r)
 
 -- a state that mirrors a linear pattern has its runs
 abbrev pub MirrorsRun : Type 0

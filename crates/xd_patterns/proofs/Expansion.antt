@@ -6,8 +6,8 @@ use Rattle.std.specs.List.{AllZip}
 use Rattle.std.proofs.lemmas.Grind.{flat_map-append}
 use Rattle.xd_doc.proofs.Numbers.{same_number}
 use Rattle.xd_doc.proofs.Lists.{append_none}
+use Rattle.xd_doc.specs.Members.{IsOneOf}
 use Rattle.xd_syntax.specs.Tree.{Definitions}
-use Rattle.xd_syntax.specs.Ways.{Among}
 use Rattle.xd_syntax.proofs.Members.{append_left, append_right, flat_mem, mem_append, mem_flat}
 use Rattle.xd_laws.specs.Guarded.{Guarded}
 use Rattle.xd_pattern_runs.specs.Alike.{Alike}
@@ -226,15 +226,15 @@ same_last [] (b ∷ ys) x y e = let z : [] ≡ ys ++ y ∷ [] = cc in absurd (no
 same_last (a ∷ xs) [] x y e = let z : [] ≡ xs ++ x ∷ [] = cc in absurd (no_end xs x z)
 same_last (a ∷ xs) (b ∷ ys) x y e = let z : xs ++ x ∷ [] ≡ ys ++ y ∷ [] = cc in let r = same_last xs ys x y z in (let q = r.0 in cc, r.1)
 
-in_reverse : {A : Type 0} (x : A) (L : List A) → Among x L → Among x (reverse L)
+in_reverse : {A : Type 0} (x : A) (L : List A) → IsOneOf x L → IsOneOf x (reverse L)
 in_reverse x [] h = absurd h
-in_reverse x (y ∷ L) (inl e) = subst (Among x) (sym (reverse-append (y ∷ []) L)) (append_right x (reverse L) (y ∷ []) (inl e))
-in_reverse x (y ∷ L) (inr h) = subst (Among x) (sym (reverse-append (y ∷ []) L)) (append_left x (reverse L) (y ∷ []) (in_reverse x L h))
+in_reverse x (y ∷ L) (inl e) = subst (IsOneOf x) (sym (reverse-append (y ∷ []) L)) (append_right x (reverse L) (y ∷ []) (inl e))
+in_reverse x (y ∷ L) (inr h) = subst (IsOneOf x) (sym (reverse-append (y ∷ []) L)) (append_left x (reverse L) (y ∷ []) (in_reverse x L h))
 
-of_reverse : {A : Type 0} (x : A) (L : List A) → Among x (reverse L) → Among x L
-of_reverse x L h = subst (Among x) (rev_rev L) (in_reverse x (reverse L) h)
+of_reverse : {A : Type 0} (x : A) (L : List A) → IsOneOf x (reverse L) → IsOneOf x L
+of_reverse x L h = subst (IsOneOf x) (rev_rev L) (in_reverse x (reverse L) h)
 
-member_work : (E : Definitions) (left : List Ahead) (w : Ahead) → Among w left → steps_of E w.front ≤ work_left E left
+member_work : (E : Definitions) (left : List Ahead) (w : Ahead) → IsOneOf w left → steps_of E w.front ≤ work_left E left
 member_work E [] w h = absurd h
 member_work E (v ∷ left) w (inl e) = let q : steps_of E v.front ≡ steps_of E w.front = ap (λ (a : Ahead). steps_of E a.front) e in omega arith
 member_work E (v ∷ left) w (inr h) = let i = member_work E left w h in omega arith
@@ -242,17 +242,17 @@ member_work E (v ∷ left) w (inr h) = let i = member_work E left w h in omega a
 module _ (E : Definitions) (t : Tables) (m m' : List (Link ℕ)) (c c' : List (Link Piece)) (adds : Adds t m m' c c') (p : ArePieces t m c) (fs gs : List Found) (stand : StandFound t m c fs) (zs : List Ahead) (y : Ahead)
     (own : List Choice) (left : List Ahead) (alike : Alike (choices_ahead E y) (own ++ flat_map (choices_ahead E) left)) (less : work_left E left + 1 ≤ steps_of E y.front)
     (items : Alike (map (choice_at t m' c') gs) (map (choice_at t m' c') fs ++ own)) where
-  found_on : (d : Choice) → Among d (map (choice_at t m c) fs) → Among d (map (choice_at t m' c') gs)
-  found_on d h = items.back d (append_left d (map (choice_at t m' c') fs) own (subst (Among d) (sym (found_kept t m m' c c' adds p fs stand)) h))
+  found_on : (d : Choice) → IsOneOf d (map (choice_at t m c) fs) → IsOneOf d (map (choice_at t m' c') gs)
+  found_on d h = items.back d (append_left d (map (choice_at t m' c') fs) own (subst (IsOneOf d) (sym (found_kept t m m' c c' adds p fs stand)) h))
 
-  stepped : (d : Choice) → Among d (choices_ahead E y) → Among d (map (choice_at t m' c') gs) ⊎ Among d (flat_map (choices_ahead E) (reverse left))
+  stepped : (d : Choice) → IsOneOf d (choices_ahead E y) → IsOneOf d (map (choice_at t m' c') gs) ⊎ IsOneOf d (flat_map (choices_ahead E) (reverse left))
   stepped d h =
       elim (mem_append d own (flat_map (choices_ahead E) left) (alike.into d h)) [
         | inl a ↦ inl (items.back d (append_right d (map (choice_at t m' c') fs) own a))
         | inr b ↦ inr (let r = mem_flat (choices_ahead E) d left b in flat_mem (choices_ahead E) d r.0 (reverse left) (in_reverse r.0 left r.1) r.2)
       ]
 
-  lesser : (w : Ahead) → Among w (reverse left) → steps_of E w.front + 1 ≤ steps_of E y.front
+  lesser : (w : Ahead) → IsOneOf w (reverse left) → steps_of E w.front + 1 ≤ steps_of E y.front
   lesser w h = let z = member_work E left w (of_reverse w left h) in let l = less in omega arith
 
   -- the task that takes the step
@@ -271,7 +271,7 @@ module _ (E : Definitions) (t : Tables) (m m' : List (Link ℕ)) (c c' : List (L
         above = [];
         split = sym (append_none (zs ++ reverse left));
         less = λ w h. absurd h;
-        all = λ d h. elim (g.all d h) [ inl a ↦ inl (found_on d a) | inr b ↦ absurd (subst (λ L. Among d (flat_map (choices_ahead E) L)) e b) ];
+        all = λ d h. elim (g.all d h) [ inl a ↦ inl (found_on d a) | inr b ↦ absurd (subst (λ L. IsOneOf d (flat_map (choices_ahead E) L)) e b) ];
       }
       go (inr (ab, v, e)) =
           let s : zs ++ y ∷ [] ≡ (g.below ++ ab) ++ v ∷ [] = g.split ∙ ap (λ L. g.below ++ L) e ∙ sym (append_then g.below ab (v ∷ [])) in
@@ -284,18 +284,18 @@ module _ (E : Definitions) (t : Tables) (m m' : List (Link ℕ)) (c c' : List (L
             split = ap (λ L. L ++ reverse left) r.0 ∙ append_then g.below ab (reverse left);
             less = λ w h.
                 elim (mem_append w ab (reverse left) h) [
-                  | inl a ↦ g.less w (subst (Among w) (sym e) (append_left w ab (v ∷ []) a))
-                  | inr b ↦ (let q = g.less y (subst (Among y) (sym e) (append_right y ab (v ∷ []) (inl (sym r.1)))) in let z = lesser w b in omega arith)
+                  | inl a ↦ g.less w (subst (IsOneOf w) (sym e) (append_left w ab (v ∷ []) a))
+                  | inr b ↦ (let q = g.less y (subst (IsOneOf y) (sym e) (append_right y ab (v ∷ []) (inl (sym r.1)))) in let z = lesser w b in omega arith)
                 ];
             all = λ d h.
                 elim (g.all d h) [
                   | inl a ↦ inl (found_on d a)
-                  | inr b ↦ moved d ab v (sym r.1) (subst (λ L. Among d (flat_map (choices_ahead E) L)) e b)
+                  | inr b ↦ moved d ab v (sym r.1) (subst (λ L. IsOneOf d (flat_map (choices_ahead E) L)) e b)
                 ];
           }
         where
-          moved : (d : Choice) (ab : List Ahead) (v : Ahead) → v ≡ y → Among d (flat_map (choices_ahead E) (ab ++ v ∷ [])) →
-              Among d (map (choice_at t m' c') gs) ⊎ Among d (flat_map (choices_ahead E) (ab ++ reverse left))
+          moved : (d : Choice) (ab : List Ahead) (v : Ahead) → v ≡ y → IsOneOf d (flat_map (choices_ahead E) (ab ++ v ∷ [])) →
+              IsOneOf d (map (choice_at t m' c') gs) ⊎ IsOneOf d (flat_map (choices_ahead E) (ab ++ reverse left))
           moved d ab v f h =
               let r = mem_flat (choices_ahead E) d (ab ++ v ∷ []) h in
               elim (mem_append r.0 ab (v ∷ []) r.1) [
@@ -303,10 +303,10 @@ module _ (E : Definitions) (t : Tables) (m m' : List (Link ℕ)) (c c' : List (L
                 | inr b ↦ last d ab r.0 v f b r.2
               ]
             where
-              last : (d : Choice) (ab : List Ahead) (w v : Ahead) → v ≡ y → Among w (v ∷ []) → Among d (choices_ahead E w) →
-                  Among d (map (choice_at t m' c') gs) ⊎ Among d (flat_map (choices_ahead E) (ab ++ reverse left))
+              last : (d : Choice) (ab : List Ahead) (w v : Ahead) → v ≡ y → IsOneOf w (v ∷ []) → IsOneOf d (choices_ahead E w) →
+                  IsOneOf d (map (choice_at t m' c') gs) ⊎ IsOneOf d (flat_map (choices_ahead E) (ab ++ reverse left))
               last d ab w v f (inl g) h =
-                  elim (stepped d (subst (λ (a : Ahead). Among d (choices_ahead E a)) (sym g ∙ f) h)) [
+                  elim (stepped d (subst (λ (a : Ahead). IsOneOf d (choices_ahead E a)) (sym g ∙ f) h)) [
                     | inl a ↦ inl a
                     | inr b ↦ inr (let q = mem_flat (choices_ahead E) d (reverse left) b in flat_mem (choices_ahead E) d q.0 (ab ++ reverse left) (append_right q.0 ab (reverse left) q.1) q.2)
                   ]
@@ -314,22 +314,22 @@ module _ (E : Definitions) (t : Tables) (m m' : List (Link ℕ)) (c c' : List (L
 
 module _ (E : Definitions) (t : Tables) (m : List (Link ℕ)) (c : List (Link Piece)) (fs : List Found) (zs : List Ahead) (y : Ahead) where
   -- what a task stands for that comes again was found
-  all_known : (x : Task) → StandsFor t m c x y → IsGoneThrough E t m c (zs ++ y ∷ []) fs x → (d : Choice) → Among d (choices_ahead E y) → Among d (map (choice_at t m c) fs)
+  all_known : (x : Task) → StandsFor t m c x y → IsGoneThrough E t m c (zs ++ y ∷ []) fs x → (d : Choice) → IsOneOf d (choices_ahead E y) → IsOneOf d (map (choice_at t m c) fs)
   all_known x s g d h = go (last_view g.above)
     where
       same : y ≡ g.ahead_of
       same = one_ahead t m c x y g.ahead_of s g.stands
 
-      go : (g.above ≡ []) ⊎ ((ys : List Ahead) × (v : Ahead) × (g.above ≡ ys ++ v ∷ [])) → Among d (map (choice_at t m c) fs)
-      go (inl e) = elim (g.all d (subst (λ (a : Ahead). Among d (choices_ahead E a)) same h)) [ inl a ↦ a | inr b ↦ absurd (subst (λ L. Among d (flat_map (choices_ahead E) L)) e b) ]
+      go : (g.above ≡ []) ⊎ ((ys : List Ahead) × (v : Ahead) × (g.above ≡ ys ++ v ∷ [])) → IsOneOf d (map (choice_at t m c) fs)
+      go (inl e) = elim (g.all d (subst (λ (a : Ahead). IsOneOf d (choices_ahead E a)) same h)) [ inl a ↦ a | inr b ↦ absurd (subst (λ L. IsOneOf d (flat_map (choices_ahead E) L)) e b) ]
       go (inr (ab, v, e)) =
           let s : zs ++ y ∷ [] ≡ (g.below ++ ab) ++ v ∷ [] = g.split ∙ ap (λ L. g.below ++ L) e ∙ sym (append_then g.below ab (v ∷ [])) in
           let r = same_last zs (g.below ++ ab) y v s in
-          let q = g.less y (subst (Among y) (sym e) (append_right y ab (v ∷ []) (inl (sym r.1)))) in
+          let q = g.less y (subst (IsOneOf y) (sym e) (append_right y ab (v ∷ []) (inl (sym r.1)))) in
           let f : steps_of E y.front ≡ steps_of E g.ahead_of.front = ap (λ (a : Ahead). steps_of E a.front) same in
           absurd (omega arith)
 
-  gone_without : ((d : Choice) → Among d (choices_ahead E y) → Among d (map (choice_at t m c) fs)) → (k : Task) → IsGoneThrough E t m c (zs ++ y ∷ []) fs k → IsGoneThrough E t m c zs fs k
+  gone_without : ((d : Choice) → IsOneOf d (choices_ahead E y) → IsOneOf d (map (choice_at t m c) fs)) → (k : Task) → IsGoneThrough E t m c (zs ++ y ∷ []) fs k → IsGoneThrough E t m c zs fs k
   gone_without known k g = go (last_view g.above)
     where
       go : (g.above ≡ []) ⊎ ((ys : List Ahead) × (v : Ahead) × (g.above ≡ ys ++ v ∷ [])) → IsGoneThrough E t m c zs fs k
@@ -340,7 +340,7 @@ module _ (E : Definitions) (t : Tables) (m : List (Link ℕ)) (c : List (Link Pi
         above = [];
         split = sym (append_none zs);
         less = λ w h. absurd h;
-        all = λ d h. elim (g.all d h) [ inl a ↦ inl a | inr b ↦ absurd (subst (λ L. Among d (flat_map (choices_ahead E) L)) e b) ];
+        all = λ d h. elim (g.all d h) [ inl a ↦ inl a | inr b ↦ absurd (subst (λ L. IsOneOf d (flat_map (choices_ahead E) L)) e b) ];
       }
       go (inr (ab, v, e)) =
           let s : zs ++ y ∷ [] ≡ (g.below ++ ab) ++ v ∷ [] = g.split ∙ ap (λ L. g.below ++ L) e ∙ sym (append_then g.below ab (v ∷ [])) in
@@ -351,12 +351,12 @@ module _ (E : Definitions) (t : Tables) (m : List (Link ℕ)) (c : List (Link Pi
             below = g.below;
             above = ab;
             split = r.0;
-            less = λ w h. g.less w (subst (Among w) (sym e) (append_left w ab (v ∷ []) h));
-            all = λ d h. elim (g.all d h) [ inl a ↦ inl a | inr b ↦ moved d ab v (sym r.1) (subst (λ L. Among d (flat_map (choices_ahead E) L)) e b) ];
+            less = λ w h. g.less w (subst (IsOneOf w) (sym e) (append_left w ab (v ∷ []) h));
+            all = λ d h. elim (g.all d h) [ inl a ↦ inl a | inr b ↦ moved d ab v (sym r.1) (subst (λ L. IsOneOf d (flat_map (choices_ahead E) L)) e b) ];
           }
         where
-          moved : (d : Choice) (ab : List Ahead) (v : Ahead) → v ≡ y → Among d (flat_map (choices_ahead E) (ab ++ v ∷ [])) →
-              Among d (map (choice_at t m c) fs) ⊎ Among d (flat_map (choices_ahead E) ab)
+          moved : (d : Choice) (ab : List Ahead) (v : Ahead) → v ≡ y → IsOneOf d (flat_map (choices_ahead E) (ab ++ v ∷ [])) →
+              IsOneOf d (map (choice_at t m c) fs) ⊎ IsOneOf d (flat_map (choices_ahead E) ab)
           moved d ab v f h =
               let r = mem_flat (choices_ahead E) d (ab ++ v ∷ []) h in
               elim (mem_append r.0 ab (v ∷ []) r.1) [
@@ -364,8 +364,8 @@ module _ (E : Definitions) (t : Tables) (m : List (Link ℕ)) (c : List (Link Pi
                 | inr b ↦ inl (known d (last d r.0 v f b r.2))
               ]
             where
-              last : (d : Choice) (w v : Ahead) → v ≡ y → Among w (v ∷ []) → Among d (choices_ahead E w) → Among d (choices_ahead E y)
-              last d w v f (inl g) h = subst (λ (a : Ahead). Among d (choices_ahead E a)) (sym g ∙ f) h
+              last : (d : Choice) (w v : Ahead) → v ≡ y → IsOneOf w (v ∷ []) → IsOneOf d (choices_ahead E w) → IsOneOf d (choices_ahead E y)
+              last d w v f (inl g) h = subst (λ (a : Ahead). IsOneOf d (choices_ahead E a)) (sym g ∙ f) h
               last d w v f (inr n) h = absurd n
 
 -- each part takes a step
@@ -443,7 +443,7 @@ module _ (E : Definitions) (t : Tables) (m0 : List (Link ℕ)) (c0 : List (Link 
               ];
         }
       where
-        itself : {ws : List Ahead} (k : Task) → Among k (x ∷ []) → IsGoneThrough E t m' c' ws gs x → IsGoneThrough E t m' c' ws gs k
+        itself : {ws : List Ahead} (k : Task) → IsOneOf k (x ∷ []) → IsGoneThrough E t m' c' ws gs x → IsGoneThrough E t m' c' ws gs k
         itself {ws} k (inl e) i = subst (λ z. IsGoneThrough E t m' c' ws gs z) e i
         itself k (inr n) i = absurd n
 
@@ -461,7 +461,7 @@ module _ (E : Definitions) (t : Tables) (m0 : List (Link ℕ)) (c0 : List (Link 
         let h = work_append E w.0 (w.1 ∷ []) in
         let i = some_steps E w.1.front in omega arith
 
-    pub again_on : Among x seen → IsExpanding E t m0 m c0 c number xs fs seen
+    pub again_on : IsOneOf x seen → IsExpanding E t m0 m c0 c number xs fs seen
     again_on there =
         let w = again_of in
         let known = all_known E t m c fs w.0 w.1 x w.4 (subst (λ ws. IsGoneThrough E t m c ws fs x) w.2 (l.gone x there)) in

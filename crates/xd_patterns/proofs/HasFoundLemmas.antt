@@ -6,19 +6,19 @@ use Rattle.std.specs.List.{list_any}
 use Rattle.std.specs.Prelude.{if◌then◌else◌}
 use Rattle.xd_doc.proofs.Bools.{and_parts}
 use Rattle.xd_doc.proofs.Numbers.{number_same}
-use Rattle.xd_syntax.specs.Ways.{Among}
 use Rattle.std.specs.Option.{option_eq}
+use Rattle.xd_doc.specs.Members.{IsOneOf}
 use Rattle.xd_patterns.specs.Tasks.{HasFound}
 use Rattle.xd_patterns.specs.Expanding.{Enters}
 use Rattle.xd_patterns.specs.declared.expand.Task.{Task}
 use Rattle.xd_patterns.specs.declared.chains.Piece.{Piece}
 use Rattle.xd_patterns.specs.declared.expand.Found.{Found}
 
-any_among : {A : Type 0} (test : A → Bool) (x : A) → ((y : A) → test y ≡ true → y ≡ x) → (ys : List A) → list_any test ys ≡ true → Among x ys
+any_among : {A : Type 0} (test : A → Bool) (x : A) → ((y : A) → test y ≡ true → y ≡ x) → (ys : List A) → list_any test ys ≡ true → IsOneOf x ys
 any_among test x right [] h = cc
 any_among test x right (y ∷ ys) h = go (test y) refl h (λ k. any_among test x right ys k)
   where
-    go : (b : Bool) → test y ≡ b → (b || list_any test ys) ≡ true → (list_any test ys ≡ true → Among x ys) → Among x (y ∷ ys)
+    go : (b : Bool) → test y ≡ b → (b || list_any test ys) ≡ true → (list_any test ys ≡ true → IsOneOf x ys) → IsOneOf x (y ∷ ys)
     go true e k rec = inl (right y e)
     go false e k rec = inr (rec k)
 

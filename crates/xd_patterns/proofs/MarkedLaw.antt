@@ -5,6 +5,7 @@ use Rattle.xd_doc.specs.Document.{Document, empty, text, element}
 use Rattle.xd_doc.specs.Classes.{class_has}
 use Rattle.xd_doc.proofs.Lists.{map_append}
 use Rattle.xd_doc.specs.Runs.{Run, at_end, at_text, at_element}
+use Rattle.xd_doc.specs.Members.{IsOneOf}
 use Rattle.xd_auto.specs.declared.auto.State.{State}
 use Rattle.xd_auto.specs.declared.auto.LabelMove.{LabelMove}
 use Rattle.xd_auto.specs.declared.auto.TextMove.{TextMove}
@@ -15,7 +16,7 @@ use Rattle.xd_auto.specs.Traces.{text_rest_or, content_or, rest_or}
 use Rattle.xd_auto.proofs.RunLaw.{over_word, over_label, runs_law, runs_are_accepting}
 use Rattle.xd_meaning.specs.Bindings.{variables_of}
 use Rattle.xd_syntax.specs.Tree.{Tree, Definitions, occurrences}
-use Rattle.xd_syntax.specs.Ways.{Way, Among, IsWholeWay}
+use Rattle.xd_syntax.specs.Ways.{Way, IsWholeWay}
 use Rattle.xd_syntax.proofs.Members.{map_mem, mem_map, flat_same}
 use Rattle.xd_laws.specs.Guarded.{Guarded}
 use Rattle.xd_pattern_runs.specs.Runs.{MarkedRun, text_runs, element_runs, runs_by, start}
@@ -28,16 +29,16 @@ use Rattle.xd_patterns.specs.Marked.{Marking, marked_text, marked_label, with_ea
 
 -- members by number, and members
 
-among_contains : {A : Type 0} (xs : List A) (x : A) → Among x xs → Contains xs x
+among_contains : {A : Type 0} (xs : List A) (x : A) → IsOneOf x xs → Contains xs x
 among_contains [] x m = absurd m
 among_contains (y ∷ xs) x (inl e) = (0, omega arith, e)
 among_contains (y ∷ xs) x (inr m) = let r = among_contains xs x m in (suc r.0, omega (arith, r.1), r.2)
 
-contains_among : {A : Type 0} (xs : List A) (x : A) → Contains xs x → Among x xs
+contains_among : {A : Type 0} (xs : List A) (x : A) → Contains xs x → IsOneOf x xs
 contains_among [] x c = absurd (omega (arith, c.1))
 contains_among (y ∷ xs) x c = go c.0 c.1 c.2 (λ d. contains_among xs x d)
   where
-    go : (i : ℕ) → i < length (y ∷ xs) → get_or (y ∷ xs) i x ≡ x → (Contains xs x → Among x xs) → Among x (y ∷ xs)
+    go : (i : ℕ) → i < length (y ∷ xs) → get_or (y ∷ xs) i x ≡ x → (Contains xs x → IsOneOf x xs) → IsOneOf x (y ∷ xs)
     go zero lt e rec = inl e
     go (suc i) lt e rec = inr (rec (i, omega arith, e))
 
@@ -103,13 +104,13 @@ module _ (a : Automaton) (k : Marking) where
       each_marked marked_label (with_marks a k s) (element_runs (runs_by (marked_moves a k) c) (runs_by (marked_moves a k) d) l) (over_label a l c d) (k s).labels (moves_at a s).labels
       (λ n m e. label_marked l c d (λ q. all_marked c q) (λ q. all_marked d q) s n m e)
 
-  marked_mem : (d : Document) (s : State) (run : Run ℕ) → IsAcceptingRun a d s run → Among (with_marks a k s run) (runs_by (marked_moves a k) d s)
+  marked_mem : (d : Document) (s : State) (run : Run ℕ) → IsAcceptingRun a d s run → IsOneOf (with_marks a k s run) (runs_by (marked_moves a k) d s)
   marked_mem d s run h =
-      subst (Among (with_marks a k s run)) (all_marked d s) (map_mem (with_marks a k s) run (Numbered.runs a d s) (contains_among (Numbered.runs a d s) run ((runs_are_accepting a s d run).1 h)))
+      subst (IsOneOf (with_marks a k s run)) (all_marked d s) (map_mem (with_marks a k s) run (Numbered.runs a d s) (contains_among (Numbered.runs a d s) run ((runs_are_accepting a s d run).1 h)))
 
-  mem_marked : (d : Document) (s : State) (r : MarkedRun) → Among r (runs_by (marked_moves a k) d s) → (run : Run ℕ) × IsAcceptingRun a d s run × (with_marks a k s run ≡ r)
+  mem_marked : (d : Document) (s : State) (r : MarkedRun) → IsOneOf r (runs_by (marked_moves a k) d s) → (run : Run ℕ) × IsAcceptingRun a d s run × (with_marks a k s run ≡ r)
   mem_marked d s r m =
-      let q = mem_map (with_marks a k s) r (Numbered.runs a d s) (subst (Among r) (sym (all_marked d s)) m) in
+      let q = mem_map (with_marks a k s) r (Numbered.runs a d s) (subst (IsOneOf r) (sym (all_marked d s)) m) in
       (q.0, (runs_are_accepting a s d q.0).0 (among_contains (Numbered.runs a d s) q.0 q.1), q.2)
 
 -- a state whose marked moves mirror a linear pattern is that pattern's

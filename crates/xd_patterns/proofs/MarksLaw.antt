@@ -3,6 +3,7 @@
 use Rattle.std.proofs.Common.{◌≡◌, ℕ, ◌+◌, Bool, true, false, ◌&&◌, cond, List, [], ◌∷◌, map, length, get_or, Some, option_map, refl, ap, sym, subst, ◌∙◌, inl, inr}
 use Rattle.xd_doc.specs.Document.{Document}
 use Rattle.xd_doc.specs.Runs.{Run, Trace, at_end, at_text, at_element, held, IsFree, IsTogether}
+use Rattle.xd_doc.specs.Members.{IsOneOf}
 use Rattle.xd_doc.proofs.Runs.{together_free}
 use Rattle.xd_auto.specs.declared.auto.State.{State}
 use Rattle.xd_auto.specs.Automaton.{Automaton}
@@ -12,7 +13,7 @@ use Rattle.xd_auto.proofs.SameMoves.{SameMoves, trace_mapped, trace_same}
 use Rattle.xd_syntax.specs.Words.{has_word}
 use Rattle.xd_meaning.specs.Bindings.{variables_of}
 use Rattle.xd_syntax.specs.Tree.{Tree, Definitions, occurrences}
-use Rattle.xd_syntax.specs.Ways.{Way, Among}
+use Rattle.xd_syntax.specs.Ways.{Way}
 use Rattle.xd_pattern_runs.specs.Runs.{trace}
 use Rattle.xd_pattern_runs.specs.Laws.{Agree, run_bindings, first_of}
 use Rattle.xd_continuations.specs.declared.links.Link.{Link}
@@ -73,7 +74,7 @@ kept_is_compiled E P a k k' s vs within h c = record {
         together_free (trace x (with_marks a k' s run))
         (none_free a k' x (λ q n. ((h q n x).0 ∙ ap (λ b. b && has_word (get_or (k q).texts n []) x) e, (h q n x).1 ∙ ap (λ b. b && has_word (get_or (k q).labels n []) x) e)) run s)
 
-    bindings : (d : Document) (run : Run ℕ) (zs : List (List ℕ)) → ((x : List ℕ) → Among x zs → has_word (variables_of P) x ≡ true) → run_bindings zs d (with_marks a k' s run) ≡ run_bindings zs d (with_marks a k s run)
+    bindings : (d : Document) (run : Run ℕ) (zs : List (List ℕ)) → ((x : List ℕ) → IsOneOf x zs → has_word (variables_of P) x ≡ true) → run_bindings zs d (with_marks a k' s run) ≡ run_bindings zs d (with_marks a k s run)
     bindings d run [] m = refl
     bindings d run (z ∷ zs) m =
         ap (λ (t : Trace). (z, held d t) ∷ run_bindings zs d (with_marks a k' s run)) (trace_kept a k k' z (same z (within z (m z (inl refl)))) s run)

@@ -2,7 +2,7 @@
 use Rattle.std.proofs.Common.{◌≡◌, ℕ, ◌≤◌, ◌⊎◌, arith, true, List, [], ◌∷◌, ◌++◌, map, length, append_assoc, append-nil, Option, Some, None, option_map, refl, ap, sym, subst, ◌∙◌, inl, inr}
 use Rattle.std.specs.List.{AllByRecursion, AllZip}
 use Rattle.xd_doc.proofs.Lists.{zip_push, all_more, all_append, map_append, all_front, all_back}
-use Rattle.xd_syntax.specs.Ways.{Among}
+use Rattle.xd_doc.specs.Members.{IsOneOf}
 use Rattle.xd_syntax.proofs.Members.{map_mem}
 use Rattle.xd_pattern_runs.specs.Alike.{Alike}
 use Rattle.xd_pattern_runs.specs.Runs as Runs
@@ -127,7 +127,7 @@ collects_one t m c old new f (inl h) i = record {
   stand = λ s. subst (StandFound t m c) (sym h.1) s;
   alike = subst (λ fs. Alike (map (choice_at t m c) fs) (map (choice_at t m c) old ++ choice_at t m c f ∷ [])) (sym h.1)
       (alike_sym (alike_known (map (choice_at t m c) old) (choice_at t m c f ∷ [])
-      (λ x k. elim k [ inl e ↦ subst (λ y. Among y (map (choice_at t m c) old)) e (map_mem (choice_at t m c) f old h.0) | inr n ↦ absurd n ])));
+      (λ x k. elim k [ inl e ↦ subst (λ y. IsOneOf y (map (choice_at t m c) old)) e (map_mem (choice_at t m c) f old h.0) | inr n ↦ absurd n ])));
 }
 collects_one t m c old new f (inr e) i = record {
   stand = λ s. subst (StandFound t m c) (sym e) (all_append (λ (g : Found). (g.is_stop ≡ true) ⊎ IsFound t m c g) old (f ∷ []) s (i, tt));

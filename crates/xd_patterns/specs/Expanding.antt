@@ -1,8 +1,8 @@
 -- A list of pieces, gone through step by step.
 use Rattle.std.specs.Prelude.{◌≡◌, ◌⊎◌, ℕ, ◌+◌, ◌-◌, ◌≤◌, nat_eq, Bool, true, false, List, [], ◌∷◌, ◌++◌, map, flat_map, reverse, take, length, Option, Some, None}
 use Rattle.std.specs.List.{AllZip}
+use Rattle.xd_doc.specs.Members.{IsOneOf}
 use Rattle.xd_syntax.specs.Tree.{Definitions}
-use Rattle.xd_syntax.specs.Ways.{Among}
 use Rattle.xd_pattern_runs.specs.Alike.{Alike}
 use Rattle.xd_pattern_runs.specs.Runs.{Choice, choices}
 use Rattle.xd_pattern_runs.specs.Steps.{Ahead, choices_ahead}
@@ -44,11 +44,11 @@ all_steps E t m c (x ∷ xs) = task_steps E t m c x + all_steps E t m c xs
 -- the task is put after the others, or stands among them
 abbrev pub Enters : List Task → Task → List Task → Bool → Type 0
 Enters old x new true = new ≡ old ++ x ∷ []
-Enters old x new false = Among x old × (new ≡ old)
+Enters old x new false = IsOneOf x old × (new ≡ old)
 
 -- nothing changes
 pub record IsSkipped (m m' : List (Link ℕ)) (c c' : List (Link Piece)) (old new : List Task) (found found' : List Found) (seen seen' : List Task) (x : Task) : Type 0 where
-  pub among : Among x seen
+  pub among : IsOneOf x seen
   pub seen_same : seen' ≡ seen
   pub marks_same : m' ≡ m
   pub cells_same : c' ≡ c
@@ -72,8 +72,8 @@ pub record IsGoneThrough (E : Definitions) (t : Tables) (m : List (Link ℕ)) (c
   pub below : List Ahead
   pub above : List Ahead
   pub split : waiting ≡ below ++ above
-  pub less : (w : Ahead) → Among w above → steps_of E w.front + 1 ≤ steps_of E ahead_of.front
-  pub all : (d : Choice) → Among d (choices_ahead E ahead_of) → Among d (map (choice_at t m c) found) ⊎ Among d (flat_map (choices_ahead E) above)
+  pub less : (w : Ahead) → IsOneOf w above → steps_of E w.front + 1 ≤ steps_of E ahead_of.front
+  pub all : (d : Choice) → IsOneOf d (choices_ahead E ahead_of) → IsOneOf d (map (choice_at t m c) found) ⊎ IsOneOf d (flat_map (choices_ahead E) above)
 
 -- what was found and what waits is all that can come next
 pub record IsExpanding (E : Definitions) (t : Tables) (m m' : List (Link ℕ)) (c c' : List (Link Piece)) (number : ℕ) (tasks : List Task) (found : List Found) (seen : List Task) : Type 0 where
@@ -83,7 +83,7 @@ pub record IsExpanding (E : Definitions) (t : Tables) (m m' : List (Link ℕ)) (
   pub tasks_stand : AllZip (StandsFor t m' c') tasks waiting
   pub found_stand : StandFound t m' c' found
   pub alike : Alike (map (choice_at t m' c') found ++ flat_map (choices_ahead E) (reverse waiting)) (choices E (continuation t m c number))
-  pub gone : (x : Task) → Among x seen → IsGoneThrough E t m' c' waiting found x
+  pub gone : (x : Task) → IsOneOf x seen → IsGoneThrough E t m' c' waiting found x
 
 -- all that can come next, in order of preference, each at least where it stands first
 pub record AreFound (E : Definitions) (t : Tables) (m m' : List (Link ℕ)) (c c' : List (Link Piece)) (number : ℕ) (found : List Found) : Type 0 where

@@ -1,10 +1,10 @@
 -- What lists of pieces, tasks, and what they find stand for.
 use Rattle.std.specs.Prelude.{◌≡◌, ℕ, ◌≤◌, ◌⊎◌, Bool, true, false, cond, List, [], ◌∷◌, ◌++◌, map, reverse, length, Option, Some, None, option_map}
 use Rattle.std.specs.List.{AllByRecursion, AllZip}
+use Rattle.xd_doc.specs.Members.{IsOneOf}
 use Rattle.xd_syntax.specs.Tree.{Tree, Text, Words, Elem, Definitions}
 use Rattle.xd_meaning.specs.Heads.{all_texts}
 use Rattle.xd_syntax.specs.Table.{Row}
-use Rattle.xd_syntax.specs.Ways.{Among}
 use Rattle.xd_pattern_runs.specs.Alike.{Alike}
 use Rattle.xd_pattern_runs.specs.Runs as Runs
 use Rattle.xd_pattern_runs.specs.Runs.{Continuation, Choice, stop, take_text, take_element, start}
@@ -147,7 +147,7 @@ pub record IsBound (old new : List (Link ℕ)) (binder part bound : Piece) : Typ
 
 -- what is found is kept where it stands first
 abbrev pub HasFound : List Found → Found → List Found → Type 0
-HasFound old f new = (Among f old × (new ≡ old)) ⊎ (new ≡ old ++ f ∷ [])
+HasFound old f new = (IsOneOf f old × (new ≡ old)) ⊎ (new ≡ old ++ f ∷ [])
 
 -- the step of a piece that stands first, before F and what is after a turn
 pub record IsStep (t : Tables) (E : Definitions) (m m' : List (Link ℕ)) (c c' : List (Link Piece)) (old new : List Task) (found found' : List Found) (q : Piece) (behind : ℕ) (turn : Option ℕ) : Type 0 where

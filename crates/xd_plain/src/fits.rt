@@ -220,7 +220,7 @@ fn is_one_text(document: &PlainDocument) -> bool
 }
 
 fn is_one_of(texts: &Words, document: &PlainDocument) -> bool
-    ensures { IsTrue result ↔ unfolded.IsOneOf texts.now (document_of document.now) }
+    ensures { IsTrue result ↔ unfolded.IsTextIn texts.now (document_of document.now) }
 {
     match document {
         PlainDocument::Empty => false,

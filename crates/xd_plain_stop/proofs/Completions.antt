@@ -6,7 +6,7 @@ use Rattle.xd_doc.specs.ClassForms.{HasLabel, HasText}
 use Rattle.xd_doc.proofs.Joins.{join_empty-right, join_assoc}
 use Rattle.xd_syntax.specs.Fits.{Split}
 use Rattle.xd_syntax.specs.Tree.{Tree, Definitions}
-use Rattle.xd_meaning.specs.FitsWithin.{FitsWithin, Repeats, no_turn, one_turn, IsOneText, IsOneOf, IsOneElement}
+use Rattle.xd_meaning.specs.FitsWithin.{FitsWithin, Repeats, no_turn, one_turn, IsOneText, IsTextIn, IsOneElement}
 use Rattle.xd_plain.specs.PlainDocuments.{document_of}
 use Rattle.xd_plain.proofs.SplitsLemmas.{Turn}
 use Rattle.xd_plain_stop.specs.Tails.{GoesByFirst, HasCompletion, HasSome, IsOpen, IsTail, goes_on, takes_item}
@@ -159,14 +159,14 @@ no_text_comes (Open' l c p t) h (empty, i, k) = k
 no_text_comes (Open' l c p t) h (text s r, i, k) = i
 no_text_comes (Open' l c p t) h (element m d r, i, k) = k
 
-pub word_comes : (w : TextClass) (t : Tail) → HasText w → takes_item t ≡ true → HasCompletion (IsOneOf w) empty t
+pub word_comes : (w : TextClass) (t : Tail) → HasText w → takes_item t ≡ true → HasCompletion (IsTextIn w) empty t
 word_comes w Anything k h = (text k.name empty, tt, (refl, k.has))
 word_comes w Something k h = (text k.name empty, refl, (refl, k.has))
 word_comes w Nothing k h = absurd (cc)
 word_comes w (Open' l c p t) k h = absurd (cc)
 
-pub no_word_comes : (w : TextClass) (t : Tail) → takes_item t ≡ false → HasCompletion (IsOneOf w) empty t → ⊥
-no_word_comes w Nothing h (r, e, i) = subst (IsOneOf w) e i
+pub no_word_comes : (w : TextClass) (t : Tail) → takes_item t ≡ false → HasCompletion (IsTextIn w) empty t → ⊥
+no_word_comes w Nothing h (r, e, i) = subst (IsTextIn w) e i
 no_word_comes w Anything h c = absurd (cc)
 no_word_comes w Something h c = absurd (cc)
 no_word_comes w (Open' l c p t) h (empty, i, k) = k
@@ -187,8 +187,8 @@ module _ (P : Document → Type 0) (comes : (t : Tail) → takes_item t ≡ true
 pub text_here : (b : Bool) (f : Document) (t : Tail) → b ≡ takes_item t → f ≡ empty → IsTrue b ↔ HasCompletion IsOneText f t
 text_here b f t e k = item_here IsOneText text_comes no_text_comes b f t e k
 
-pub word_here : (w : TextClass) → HasText w → (b : Bool) (f : Document) (t : Tail) → b ≡ takes_item t → f ≡ empty → IsTrue b ↔ HasCompletion (IsOneOf w) f t
-word_here w some b f t e k = item_here (IsOneOf w) (λ u. word_comes w u some) (no_word_comes w) b f t e k
+pub word_here : (w : TextClass) → HasText w → (b : Bool) (f : Document) (t : Tail) → b ≡ takes_item t → f ≡ empty → IsTrue b ↔ HasCompletion (IsTextIn w) f t
+word_here w some b f t e k = item_here (IsTextIn w) (λ u. word_comes w u some) (no_word_comes w) b f t e k
 
 -- ---- an element that is open
 

@@ -311,7 +311,7 @@ fn may_be_text(front: &PlainDocument, tail: &Tail) -> bool
 }
 
 fn may_be_one_of(texts: &Words, front: &PlainDocument, tail: &Tail) -> bool
-    ensures { IsTrue result ↔ HasCompletion (unfolded.IsOneOf texts.now) (document_of front.now) tail.now }
+    ensures { IsTrue result ↔ HasCompletion (unfolded.IsTextIn texts.now) (document_of front.now) tail.now }
 {
     texts.has_some();
     match front {

@@ -4,8 +4,8 @@ use Rattle.std.specs.List.{AllZip, slice_get, flat_map}
 use Rattle.std.proofs.lemmas.List.{take_more, map-append, length-map}
 use Rattle.std.proofs.lemmas.Option.{get_or_from_slice_get, slice_get_within}
 use Rattle.xd_doc.proofs.Lists.{zip_long}
+use Rattle.xd_doc.specs.Members.{IsOneOf}
 use Rattle.xd_syntax.specs.Tree.{Tree, Definitions}
-use Rattle.xd_syntax.specs.Ways.{Among}
 use Rattle.xd_auto.specs.declared.auto.State.{State}
 use Rattle.xd_auto.specs.declared.auto.LabelMove.{LabelMove}
 use Rattle.xd_auto.specs.declared.auto.TextMove.{TextMove}
@@ -133,13 +133,13 @@ module _ (E : Definitions) (a : Automaton) (C : State → Option Tree)
 
 abbrev pub Distinct : List ℕ → Type 0
 Distinct [] = Unit {0}
-Distinct (x ∷ xs) = (Among x xs → ⊥) × Distinct xs
+Distinct (x ∷ xs) = (IsOneOf x xs → ⊥) × Distinct xs
 
-distinct_append : (xs ys : List ℕ) → Distinct xs → Distinct ys → ((p : ℕ) → Among p xs → Among p ys → ⊥) → Distinct (xs ++ ys)
+distinct_append : (xs ys : List ℕ) → Distinct xs → Distinct ys → ((p : ℕ) → IsOneOf p xs → IsOneOf p ys → ⊥) → Distinct (xs ++ ys)
 distinct_append [] ys h k f = k
 distinct_append (x ∷ xs) ys h k f = (λ m. ⊎_elim h.0 (f x (inl refl)) (among_split x xs ys m), distinct_append xs ys h.1 k (λ p m n. f p (inr m) n))
   where
-    among_split : (p : ℕ) (us vs : List ℕ) → Among p (us ++ vs) → Among p us ⊎ Among p vs
+    among_split : (p : ℕ) (us vs : List ℕ) → IsOneOf p (us ++ vs) → IsOneOf p us ⊎ IsOneOf p vs
     among_split p [] vs m = inr m
     among_split p (u ∷ us) vs (inl e) = inl (inl e)
     among_split p (u ∷ us) vs (inr m) = ⊎_elim (λ h. inl (inr h)) (λ h. inr h) (among_split p us vs m)
@@ -149,20 +149,20 @@ distinct_at [] d i j p e f = absurd (cc)
 distinct_at (x ∷ xs) d zero zero p e f = refl
 distinct_at (x ∷ xs) d zero (suc j) p e f = absurd (d.0 (among_get xs j x (let q : x ≡ p = cc in f ∙ ap Some (sym q))))
   where
-    among_get : (ys : List ℕ) (j y : ℕ) → slice_get ys j ≡ Some y → Among y ys
+    among_get : (ys : List ℕ) (j y : ℕ) → slice_get ys j ≡ Some y → IsOneOf y ys
     among_get [] j y g = absurd (cc)
     among_get (z ∷ ys) zero y g = inl (cc)
     among_get (z ∷ ys) (suc j) y g = inr (among_get ys j y g)
 distinct_at (x ∷ xs) d (suc i) zero p e f = absurd (d.0 (among_get xs i x (let q : x ≡ p = cc in e ∙ ap Some (sym q))))
   where
-    among_get : (ys : List ℕ) (j y : ℕ) → slice_get ys j ≡ Some y → Among y ys
+    among_get : (ys : List ℕ) (j y : ℕ) → slice_get ys j ≡ Some y → IsOneOf y ys
     among_get [] j y g = absurd (cc)
     among_get (z ∷ ys) zero y g = inl (cc)
     among_get (z ∷ ys) (suc j) y g = inr (among_get ys j y g)
 distinct_at (x ∷ xs) d (suc i) (suc j) p e f = ap suc (distinct_at xs d.1 i j p e f)
 
 -- a number stands for a head of its sort
-sort_at : (b : Bool) (n : ℕ) (ss : List Bool) (p : ℕ) → Among p (numbers_of b n ss) → (i : ℕ) × (p ≡ n + i) × (slice_get ss i ≡ Some b)
+sort_at : (b : Bool) (n : ℕ) (ss : List Bool) (p : ℕ) → IsOneOf p (numbers_of b n ss) → (i : ℕ) × (p ≡ n + i) × (slice_get ss i ≡ Some b)
 sort_at b n [] p m = absurd m
 sort_at b n (s ∷ ss) p m = go b s m (λ k. sort_at b (n + 1) ss p k)
   where
@@ -172,7 +172,7 @@ sort_at b n (s ∷ ss) p m = go b s m (λ k. sort_at b (n + 1) ss p k)
     here : n ≡ p → p ≡ n + 0
     here e = omega arith
 
-    go : (c r : Bool) → Among p (cond (cond c r (not r)) (n ∷ numbers_of c (n + 1) ss) (numbers_of c (n + 1) ss)) → (Among p (numbers_of c (n + 1) ss) → (i : ℕ) × (p ≡ (n + 1) + i) × (slice_get ss i ≡ Some c))
+    go : (c r : Bool) → IsOneOf p (cond (cond c r (not r)) (n ∷ numbers_of c (n + 1) ss) (numbers_of c (n + 1) ss)) → (IsOneOf p (numbers_of c (n + 1) ss) → (i : ℕ) × (p ≡ (n + 1) + i) × (slice_get ss i ≡ Some c))
         → (i : ℕ) × (p ≡ n + i) × (slice_get (r ∷ ss) i ≡ Some c)
     go true true (inl e) rec = (0, here e, refl)
     go true true (inr k) rec = next true true (rec k)
@@ -190,10 +190,10 @@ numbers_distinct b n (s ∷ ss) = go (cond b s (not s)) (numbers_distinct b (n +
     go false i = i
 
 -- the numbers of a type's heads
-place_within : (n : ℕ) (ss : List Bool) (p : ℕ) → Among p (places_of n ss) → (n ≤ p) × (p < n + length ss)
+place_within : (n : ℕ) (ss : List Bool) (p : ℕ) → IsOneOf p (places_of n ss) → (n ≤ p) × (p < n + length ss)
 place_within n ss p m = ⊎_elim (λ h. at false (sort_at false n ss p h)) (λ h. at true (sort_at true n ss p h)) (among_split (numbers_of false n ss) (numbers_of true n ss) m)
   where
-    among_split : (us vs : List ℕ) → Among p (us ++ vs) → Among p us ⊎ Among p vs
+    among_split : (us vs : List ℕ) → IsOneOf p (us ++ vs) → IsOneOf p us ⊎ IsOneOf p vs
     among_split [] vs k = inr k
     among_split (u ∷ us) vs (inl e) = inl (inl e)
     among_split (u ∷ us) vs (inr k) = ⊎_elim (λ h. inl (inr h)) (λ h. inr h) (among_split us vs k)
@@ -212,11 +212,11 @@ places_distinct n ss = distinct_append (numbers_of false n ss) (numbers_of true 
         let h = x.2 in
         let k : Some false ≡ Some true = sym h ∙ g in cc
 
-all_within : (n : ℕ) (sss : List (List Bool)) (p : ℕ) → Among p (all_places n sss) → n ≤ p
+all_within : (n : ℕ) (sss : List (List Bool)) (p : ℕ) → IsOneOf p (all_places n sss) → n ≤ p
 all_within n [] p m = absurd m
 all_within n (ss ∷ sss) p m = ⊎_elim (λ h. (place_within n ss p h).0) (λ h. let k = all_within (n + length ss) sss p h in omega arith) (among_split (places_of n ss) m)
   where
-    among_split : (us : List ℕ) → Among p (us ++ all_places (n + length ss) sss) → Among p us ⊎ Among p (all_places (n + length ss) sss)
+    among_split : (us : List ℕ) → IsOneOf p (us ++ all_places (n + length ss) sss) → IsOneOf p us ⊎ IsOneOf p (all_places (n + length ss) sss)
     among_split [] k = inr k
     among_split (u ∷ us) (inl e) = inl (inl e)
     among_split (u ∷ us) (inr k) = ⊎_elim (λ h. inl (inr h)) (λ h. inr h) (among_split us k)

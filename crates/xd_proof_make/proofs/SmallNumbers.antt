@@ -4,8 +4,8 @@ use Rattle.std.proofs.Common.{◌≡◌, ℕ, zero, suc, ◌<◌, ◌≤◌, ◌
 use Rattle.std.specs.List.{AllByRecursion, AllZip}
 use Rattle.std.proofs.lemmas.Bool.{cases_lt}
 use Rattle.xd_doc.proofs.Numbers.{le_lt}
+use Rattle.xd_doc.specs.Members.{IsOneOf}
 use Rattle.xd_syntax.specs.Tree.{Tree, Definitions}
-use Rattle.xd_syntax.specs.Ways.{Among}
 use Rattle.xd_auto.specs.declared.auto.State.{State}
 use Rattle.xd_rules.specs.Heads.{Head}
 use Rattle.xd_meaning.specs.Heads.{heads}
@@ -86,11 +86,11 @@ module _ (E : Definitions) (gs : List Goal) (few : AreFew gs) where
 
 -- ---- each once
 
-among_filter : {A : Type 0} (q : A → Bool) (x : A) (xs : List A) → Among x (filter q xs) → Among x xs × (q x ≡ true)
+among_filter : {A : Type 0} (q : A → Bool) (x : A) (xs : List A) → IsOneOf x (filter q xs) → IsOneOf x xs × (q x ≡ true)
 among_filter q x [] m = absurd m
 among_filter {A} q x (y ∷ xs) m = by (q y) refl m (λ n. among_filter q x xs n)
   where
-    by : (b : Bool) → q y ≡ b → Among x (cond b (y ∷ filter q xs) (filter q xs)) → (Among x (filter q xs) → Among x xs × (q x ≡ true)) → Among x (y ∷ xs) × (q x ≡ true)
+    by : (b : Bool) → q y ≡ b → IsOneOf x (cond b (y ∷ filter q xs) (filter q xs)) → (IsOneOf x (filter q xs) → IsOneOf x xs × (q x ≡ true)) → IsOneOf x (y ∷ xs) × (q x ≡ true)
     by true e (inl f) rest = (inl f, subst (λ (z : A). q z ≡ true) f e)
     by true e (inr n) rest = let i = rest n in (inr i.0, i.1)
     by false e n rest = let i = rest n in (inr i.0, i.1)
@@ -109,7 +109,7 @@ module _ {A : Type 0} (same : A → A → Bool) (self : (x : A) → same x x ≡
   once_no_repeat (x ∷ xs) =
       (λ m. (let e = (among_filter (λ y. not (same x y)) x (each_once same xs) m).1 in let f : false ≡ true = sym (ap not (self x)) ∙ e in cc), filter_no_repeat (λ y. not (same x y)) (each_once same xs) (once_no_repeat xs))
 
-  among_once : (x : A) (xs : List A) → Among x (each_once same xs) → Among x xs
+  among_once : (x : A) (xs : List A) → IsOneOf x (each_once same xs) → IsOneOf x xs
   among_once x [] m = m
   among_once x (y ∷ xs) (inl e) = inl e
   among_once x (y ∷ xs) (inr m) = inr (among_once x xs (among_filter (λ z. not (same y z)) x (each_once same xs) m).0)
@@ -138,20 +138,20 @@ module _ (C : State → Option Tree) where
   abbrev IsTypeBelow : ℕ → Tree → Type 0
   IsTypeBelow n T = (s : State) × (s.number < n) × (C s ≡ Some T)
 
-  type_there : (n : ℕ) (s : State) (T : Tree) → s.number < n → C s ≡ Some T → Among T (types_below n)
+  type_there : (n : ℕ) (s : State) (T : Tree) → s.number < n → C s ≡ Some T → IsOneOf T (types_below n)
   type_there zero s T lt e = absurd (omega arith)
   type_there (suc n) s T lt e = ⊎_elim (λ h. later (C (record { number = n })) (type_there n s T h e)) (λ ge. here (omega arith)) (cases_lt s.number n)
     where
-      here : s.number ≡ n → Among T (with_type (C (record { number = n })) (types_below n))
+      here : s.number ≡ n → IsOneOf T (with_type (C (record { number = n })) (types_below n))
       here q =
           let f : C (record { number = n }) ≡ Some T = sym (ap (λ (k : ℕ). C (record { number = k })) q) ∙ e in
-          subst (λ (o : Option Tree). Among T (with_type o (types_below n))) (sym f) (inl refl)
+          subst (λ (o : Option Tree). IsOneOf T (with_type o (types_below n))) (sym f) (inl refl)
 
-      later : (o : Option Tree) → Among T (types_below n) → Among T (with_type o (types_below n))
+      later : (o : Option Tree) → IsOneOf T (types_below n) → IsOneOf T (with_type o (types_below n))
       later None m = m
       later (Some U) m = inr m
 
-  among_all : (P : Tree → Type 0) (T : Tree) (Ts : List Tree) → AllByRecursion P Ts → Among T Ts → P T
+  among_all : (P : Tree → Type 0) (T : Tree) (Ts : List Tree) → AllByRecursion P Ts → IsOneOf T Ts → P T
   among_all P T [] a m = absurd m
   among_all P T (U ∷ Ts) a (inl e) = subst P e a.0
   among_all P T (U ∷ Ts) a (inr m) = among_all P T Ts a.1 m

@@ -5,6 +5,7 @@ use Rattle.std.specs.Str.{bytes_eq}
 use Rattle.std.proofs.lemmas.Slice.Eq.{bytes_eq-Decides}
 use Rattle.std.proofs.lemmas.Bool.{and_from, not_from_false}
 use Rattle.xd_doc.specs.Document.{empty}
+use Rattle.xd_doc.specs.Members.{IsOneOf}
 use Rattle.xd_doc.proofs.Bools.{and_parts, not_true}
 use Rattle.xd_syntax.specs.Tree.{Tree, Definitions}
 use Rattle.xd_syntax.specs.Table.{Row}
@@ -18,7 +19,7 @@ use Rattle.xd_syntax.specs.SoundTables.{definition_of}
 use Rattle.xd_syntax.specs.RecursionFaults.{Use, top_uses, AllCanBeEmpty, IsFrontUse, placed_body, Leads, arrived, use_then, AnyUse, IsOutsideTail, IsUnguarded, Keeps, all_seen, kept, left_out, UseIn, all_top_uses, not_tail_fault, unguarded_fault, AreRecursionFaults}
 use Rattle.xd_syntax.specs.declared.types.TypeDef.{TypeDef}
 use Rattle.xd_syntax.specs.declared.fault.Fault.{Fault}
-use Rattle.xd_syntax.proofs.Members.{Among, mem_append, append_left, append_right, mem_map, map_mem}
+use Rattle.xd_syntax.proofs.Members.{mem_append, append_left, append_right, mem_map, map_mem}
 use Rattle.xd_sound.specs.Graph.{HasEdge}
 use Rattle.xd_rec.specs.Components.{AreComponents, Path, stay, edge_then}
 use Rattle.xd_sound.specs.TypeNames.{first_from, first_of, meanings}
@@ -79,10 +80,10 @@ record IsUseOf (Z : Tree → Bool) (types : List Row) (ds : List TypeDef) (k : �
   number : ℕ
   high : number < length ds
   source : Use
-  listed : Among source (top_uses (body_at_number types ds number))
+  listed : IsOneOf source (top_uses (body_at_number types ds number))
   is : v ≡ seen Z (k + number) source
 
-use_source : (Z : Tree → Bool) (types : List Row) (k : ℕ) (ds : List TypeDef) (v : TopUse) → Among v (uses_from Z k (map (type_definition types) ds)) → IsUseOf Z types ds k v
+use_source : (Z : Tree → Bool) (types : List Row) (k : ℕ) (ds : List TypeDef) (v : TopUse) → IsOneOf v (uses_from Z k (map (type_definition types) ds)) → IsUseOf Z types ds k v
 use_source Z types k [] v m = absurd m
 use_source Z types k (d ∷ ds) v m = elim (mem_append v (tree_uses Z k (placed_at types d.body.at)) (uses_from Z (suc k) (map (type_definition types) ds)) m) [
   | inl a ↦
@@ -96,17 +97,17 @@ use_source Z types k (d ∷ ds) v m = elim (mem_append v (tree_uses Z k (placed_
       record { number = suc r.number; high = omega arith; source = r.source; listed = r.listed; is = r.is ∙ ap (λ n. seen Z n r.source) e }
 ]
 
-use_listed : (Z : Tree → Bool) (types : List Row) (k : ℕ) (ds : List TypeDef) (i : ℕ) (u : Use) → i < length ds → Among u (top_uses (body_at_number types ds i)) →
-    Among (seen Z (k + i) u) (uses_from Z k (map (type_definition types) ds))
+use_listed : (Z : Tree → Bool) (types : List Row) (k : ℕ) (ds : List TypeDef) (i : ℕ) (u : Use) → i < length ds → IsOneOf u (top_uses (body_at_number types ds i)) →
+    IsOneOf (seen Z (k + i) u) (uses_from Z k (map (type_definition types) ds))
 use_listed Z types k [] i u l m = absurd (omega arith)
 use_listed Z types k (d ∷ ds) zero u l m =
     let e : k ≡ k + 0 = omega arith in
     append_left (seen Z (k + 0) u) (tree_uses Z k (placed_at types d.body.at)) (uses_from Z (suc k) (map (type_definition types) ds))
-    (subst (λ n. Among (seen Z n u) (tree_uses Z k (placed_at types d.body.at))) e (map_mem (seen Z k) u (top_uses (placed_at types d.body.at)) m))
+    (subst (λ n. IsOneOf (seen Z n u) (tree_uses Z k (placed_at types d.body.at))) e (map_mem (seen Z k) u (top_uses (placed_at types d.body.at)) m))
 use_listed Z types k (d ∷ ds) (suc i) u l m =
     let e : suc k + i ≡ k + suc i = omega arith in
     append_right (seen Z (k + suc i) u) (tree_uses Z k (placed_at types d.body.at)) (uses_from Z (suc k) (map (type_definition types) ds))
-    (subst (λ n. Among (seen Z n u) (uses_from Z (suc k) (map (type_definition types) ds))) e (use_listed Z types (suc k) ds i u (omega arith) m))
+    (subst (λ n. IsOneOf (seen Z n u) (uses_from Z (suc k) (map (type_definition types) ds))) e (use_listed Z types (suc k) ds i u (omega arith) m))
 
 pub all_owned : (Z : Tree → Bool) (types : List Row) (ds : List TypeDef) → AreOwned ds (uses_from Z 0 (map (type_definition types) ds))
 all_owned Z types ds v m =
@@ -134,7 +135,7 @@ kept_all test Z k (t ∷ ts) = kept_uses test Z k t.name (top_uses t.body) ++ ke
 abbrev Decided : (TopUse → Bool) → (Tree → Bool) → (UseIn → Type 0) → ℕ → List ℕ → Use → Type 0
 Decided test Z Q k x u = (test (seen Z k u) ≡ true → Q (use_in x u)) × (Q (use_in x u) → test (seen Z k u) ≡ true)
 
-keeps_uses : (test : TopUse → Bool) (Z : Tree → Bool) (Q : UseIn → Type 0) (k : ℕ) (x : List ℕ) (us : List Use) → ((u : Use) → Among u us → Decided test Z Q k x u) →
+keeps_uses : (test : TopUse → Bool) (Z : Tree → Bool) (Q : UseIn → Type 0) (k : ℕ) (x : List ℕ) (us : List Use) → ((u : Use) → IsOneOf u us → Decided test Z Q k x u) →
     Keeps Q (map (use_in x) us) (kept_uses test Z k x us)
 keeps_uses test Z Q k x [] h = all_seen
 keeps_uses test Z Q k x (u ∷ us) h = go (test (seen Z k u)) refl (h u (inl refl)) (keeps_uses test Z Q k x us (λ v m. h v (inr m)))
@@ -145,7 +146,7 @@ keeps_uses test Z Q k x (u ∷ us) h = go (test (seen Z k u)) refl (h u (inl ref
     go false e d i = left_out (λ q. (let f = d.1 q in cc)) i
 
 keeps_all : (test : TopUse → Bool) (Z : Tree → Bool) (Q : UseIn → Type 0) (types : List Row) (k : ℕ) (ds : List TypeDef) →
-    ((i : ℕ) (u : Use) → i < length ds → Among u (top_uses (body_at_number types ds i)) → Decided test Z Q (k + i) (name_at ds i) u) →
+    ((i : ℕ) (u : Use) → i < length ds → IsOneOf u (top_uses (body_at_number types ds i)) → Decided test Z Q (k + i) (name_at ds i) u) →
     Keeps Q (all_top_uses (map (type_definition types) ds)) (kept_all test Z k (map (type_definition types) ds))
 keeps_all test Z Q types k [] h = all_seen
 keeps_all test Z Q types k (d ∷ ds) h =
@@ -189,8 +190,8 @@ module _ (types : List Row) (ds : List TypeDef) (fs : List FunctionDefinition) (
   abbrev P : ProgramTree
   P = program_of types ds fs
 
-  use_edge : (i : ℕ) (u : Use) (w : ℕ) → i < length ds → Among u (top_uses (body_at_number types ds i)) → first_of ds u.name ≡ Some w → A u → HasEdge g i w
-  use_edge i u w l m e a = (graph.edges i w).1 (record { used = seen Z i u; listed = (let z : 0 + i ≡ i = omega arith in subst (λ n. Among (seen Z n u) (uses_from Z 0 (map (type_definition types) ds))) z (use_listed Z types 0 ds i u l m)); owner = refl; target = e; counts = counted u a })
+  use_edge : (i : ℕ) (u : Use) (w : ℕ) → i < length ds → IsOneOf u (top_uses (body_at_number types ds i)) → first_of ds u.name ≡ Some w → A u → HasEdge g i w
+  use_edge i u w l m e a = (graph.edges i w).1 (record { used = seen Z i u; listed = (let z : 0 + i ≡ i = omega arith in subst (λ n. IsOneOf (seen Z n u) (uses_from Z 0 (map (type_definition types) ds))) z (use_listed Z types 0 ds i u l m)); owner = refl; target = e; counts = counted u a })
 
   -- what a name's definition is
   body_of_name : (x : List ℕ) (T : PlacedTree) → placed_body (map (type_definition types) ds) x ≡ Some T → (k : ℕ) × (first_of ds x ≡ Some k) × (k < length ds) × (body_at_number types ds k ≡ T)
@@ -211,7 +212,7 @@ module _ (types : List Row) (ds : List TypeDef) (fs : List FunctionDefinition) (
   chain_path (use_then {x} {y} {z} s r) k e =
       let i = chain_path r k e in
       let b = body_of_name x s.0 s.2 in
-      let m : Among s.1 (top_uses (body_at_number types ds b.0)) = subst (λ T. Among s.1 (top_uses T)) (sym b.3) s.3 in
+      let m : IsOneOf s.1 (top_uses (body_at_number types ds b.0)) = subst (λ T. IsOneOf s.1 (top_uses T)) (sym b.3) s.3 in
       (b.0, b.1, edge_then (use_edge b.0 s.1 i.0 b.2 m (ap (first_of ds) s.4 ∙ i.1) s.5) i.2)
 
   path_chain : {t k : ℕ} → Path g t k → Leads P A (name_at ds t) (name_at ds k)
@@ -222,7 +223,7 @@ module _ (types : List Row) (ds : List TypeDef) (fs : List FunctionDefinition) (
       let z : 0 + s.number ≡ s.number = omega arith in
       let n : s.number ≡ t = sym z ∙ sym (ap (λ (x : TopUse). x.owner) s.is) ∙ r.owner in
       let l : t < length ds = subst (λ i. i < length ds) n s.high in
-      let m : Among s.source (top_uses (body_at_number types ds t)) = subst (λ i. Among s.source (top_uses (body_at_number types ds i))) n s.listed in
+      let m : IsOneOf s.source (top_uses (body_at_number types ds t)) = subst (λ i. IsOneOf s.source (top_uses (body_at_number types ds i))) n s.listed in
       let w : s.source.name ≡ name_at ds v = sym (ap (λ (x : TopUse). x.name) s.is) ∙ sym (named ds r.used.name v r.target) in
       let a : A s.source = allowed s.source (λ q. sym (ap (λ (x : TopUse). x.is_front) s.is) ∙ r.counts q) in
       use_then (body_at_number types ds t, s.source, name_of_body t l, m, w, a) (path_chain p)
@@ -238,7 +239,7 @@ module _ (types : List Row) (ds : List TypeDef) (fs : List FunctionDefinition) (
           let lt = defined_in ds u.name t f in
           subst (λ x. Leads P A x (name_at ds k)) (named ds u.name t f) (path_chain ((parts.same k t (omega arith) (omega arith)).0 s).1)
 
-  pub leads_back : (k : ℕ) (u : Use) → k < length ds → Among u (top_uses (body_at_number types ds k)) → A u → Leads P A u.name (name_at ds k) → is_back ds st (seen Z k u) ≡ true
+  pub leads_back : (k : ℕ) (u : Use) → k < length ds → IsOneOf u (top_uses (body_at_number types ds k)) → A u → Leads P A u.name (name_at ds k) → is_back ds st (seen Z k u) ≡ true
   leads_back k u l m a c =
       let r = chain_path c k (unique k no_def l) in
       let n = graph.count in

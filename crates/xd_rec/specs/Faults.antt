@@ -1,6 +1,6 @@
 -- Which uses have a fault of recursion, by components.
 use Rattle.std.specs.Prelude.{◌≡◌, ℕ, ◌<◌, Bool, true, false, not, cond, ◌&&◌, ◌⊎◌, ◌↔◌, List, [], ◌∷◌, length, Option, Some, None}
-use Rattle.xd_syntax.specs.Ways.{Among}
+use Rattle.xd_doc.specs.Members.{IsOneOf}
 use Rattle.xd_syntax.specs.NameFaults.{fault_at}
 use Rattle.xd_syntax.specs.declared.types.TypeDef.{TypeDef}
 use Rattle.xd_syntax.specs.declared.fault.Fault.{Fault}
@@ -15,12 +15,12 @@ use Rattle.xd_rec.specs.declared.uses.TopUse.{TopUse}
 
 -- each use stands in one of the definitions
 abbrev pub AreOwned : List TypeDef → List TopUse → Type 0
-AreOwned ds us = (u : TopUse) → Among u us → u.owner < length ds
+AreOwned ds us = (u : TopUse) → IsOneOf u us → u.owner < length ds
 
 -- a use that counts leads from the definition v to the definition w
 pub record IsUsedIn (ds : List TypeDef) (us : List TopUse) (front_only : Bool) (v w : ℕ) : Type 0 where
   pub used : TopUse
-  pub listed : Among used us
+  pub listed : IsOneOf used us
   pub owner : used.owner ≡ v
   pub target : first_of ds used.name ≡ Some w
   pub counts : front_only ≡ true → used.is_front ≡ true

@@ -1,11 +1,11 @@
 -- Uses outside every label, with what decides them as tests.
 use Rattle.std.specs.Prelude.{◌≡◌, ℕ, suc, ◌+◌, ◌<◌, Bool, true, false, ◌&&◌, List, [], ◌∷◌, ◌++◌, map, flat_map, length}
 use Rattle.xd_base.specs.declared.Place.{Place}
+use Rattle.xd_doc.specs.Members.{IsOneOf}
 use Rattle.xd_syntax.specs.Tree.{Tree}
 use Rattle.xd_syntax.specs.Table.{Row, Form, empty_form, text_form, words_form, name_form, elem_form, seq_form, alt_form, star_form, plus_form, opt_form, val_form, tree_at, PartsBelow, CanFollow}
 use Rattle.xd_syntax.specs.Placed.{PlacedTree, Empty_at, Text_at, Words_at, Name_at, Elem_at, Seq_at, Alt_at, Star_at, Plus_at, Opt_at, Val_at}
 use Rattle.xd_syntax.specs.PlacedTable.{placed_at, placed_form}
-use Rattle.xd_syntax.specs.Ways.{Among}
 use Rattle.xd_syntax.specs.Program.{TypeDefinition}
 use Rattle.xd_syntax.specs.RecursionFaults.{Use, top_uses}
 use Rattle.xd_syntax.specs.declared.types.TypeDef.{TypeDef}
@@ -91,7 +91,7 @@ own_use p place (opt_form i) = []
 own_use p place (val_form x q i) = []
 
 abbrev pub AllBelong : List Row → List Part → Type 0
-AllBelong types ps = (p : Part) → Among p ps → p.at < length types
+AllBelong types ps = (p : Part) → IsOneOf p ps → p.at < length types
 
 -- one node was read: its parts wait, and it is listed if it is a use
 pub record IsListed (Z : Tree → Bool) (types : List Row) (part : Part) (old new : List Part) (before after : List TopUse) : Type 0 where

@@ -2,10 +2,10 @@
 use Rattle.std.proofs.Common.{◌≡◌, ◌⊎◌, inl, inr, ℕ, zero, suc, ◌<◌, true, refl, sym, ap, ◌∙◌, subst, List, [], ◌∷◌, ◌++◌, length, get_or, Option, Some, None, arith}
 use Rattle.std.specs.List.{AllByRecursion}
 use Rattle.xd_doc.specs.Document.{Document}
+use Rattle.xd_doc.specs.Members.{IsOneOf}
 use Rattle.xd_doc.proofs.Lists.{all_but_last}
 use Rattle.xd_doc.proofs.Logic.{sum_map}
 use Rattle.xd_syntax.specs.Tree.{Tree, Empty}
-use Rattle.xd_syntax.specs.Ways.{Among}
 use Rattle.xd_syntax.specs.Table.{Row}
 use Rattle.xd_syntax.specs.declared.types.TypeId.{TypeId}
 use Rattle.xd_same_types.specs.Same.{Meaning}
@@ -29,18 +29,18 @@ same_term t u e f = ap by_at f ∙ ap by_to e
     by_to n = record { by = record { at = u.by.at }; to = n }
 
 -- it stands at a place
-pub among_at : {A : Type 0} (xs : List A) (k : ℕ) (x : A) → k < length xs → x ≡ get_or xs k x → Among x xs
+pub among_at : {A : Type 0} (xs : List A) (k : ℕ) (x : A) → k < length xs → x ≡ get_or xs k x → IsOneOf x xs
 among_at [] k x l e = absurd (omega arith)
 among_at (y ∷ ys) zero x l e = inl (sym e)
 among_at (y ∷ ys) (suc k) x l e = let m : k < length ys = omega arith in inr (among_at ys k x m e)
 
 -- a product of a side is taken by the side
-among_takes : (N : Meaning) (X : Unknowns) (d : Document) (a : List Row) (t : Term) (ts : List Term) → Among t ts → ProductTakes N X d (product_in a t) → SomeTakes N X d (products a ts)
+among_takes : (N : Meaning) (X : Unknowns) (d : Document) (a : List Row) (t : Term) (ts : List Term) → IsOneOf t ts → ProductTakes N X d (product_in a t) → SomeTakes N X d (products a ts)
 among_takes N X d a t [] m f = absurd m
 among_takes N X d a t (u ∷ us) (inl e) f = inl (subst (λ x. ProductTakes N X d (product_in a x)) (sym e) f)
 among_takes N X d a t (u ∷ us) (inr m) f = inr (among_takes N X d a t us m f)
 
-all_among_take : (N : Meaning) (X : Unknowns) (d : Document) (a : List Row) (ts us : List Term) → AllByRecursion (λ u. Among u ts) us → SomeTakes N X d (products a us) → SomeTakes N X d (products a ts)
+all_among_take : (N : Meaning) (X : Unknowns) (d : Document) (a : List Row) (ts us : List Term) → AllByRecursion (λ u. IsOneOf u ts) us → SomeTakes N X d (products a us) → SomeTakes N X d (products a ts)
 all_among_take N X d a ts [] h f = absurd f
 all_among_take N X d a ts (u ∷ us) h (inl f) = among_takes N X d a u ts h.0 f
 all_among_take N X d a ts (u ∷ us) h (inr f) = all_among_take N X d a ts us h.1 f
@@ -62,7 +62,7 @@ unless_not other now new p a = record {
   tops = a.tops;
 }
 
-pub unless_had : (a : List Row) (other : Sum) (now : Side) (t : Term) → Among t other.terms.items → AddsUnless (side_in a other) now (product_in a t) now
+pub unless_had : (a : List Row) (other : Sum) (now : Side) (t : Term) → IsOneOf t other.terms.items → AddsUnless (side_in a other) now (product_in a t) now
 unless_had a other now t m = record {
   within = λ N X d f. inl f;
   covered = λ N X d f. go N X d f;

@@ -5,9 +5,9 @@ use Rattle.xd_syntax.specs.declared.types.TypeId.{TypeId}
 use Rattle.std.specs.List.{AllByRecursion}
 use Rattle.std.specs.Option.{IfSome, option_map}
 use Rattle.xd_doc.specs.Document.{Document}
+use Rattle.xd_doc.specs.Members.{IsOneOf}
 use Rattle.xd_syntax.specs.Tree.{Tree, Alt, Star}
 use Rattle.xd_syntax.specs.Fits.{Split}
-use Rattle.xd_syntax.specs.Ways.{Among}
 use Rattle.xd_syntax.specs.Table.{Row, tree_at}
 use Rattle.xd_syntax.specs.Types.{BelongsTo}
 use Rattle.xd_same_types.specs.Same.{Meaning, FitsAs, HasTops, MeansSame, TakesItem}
@@ -155,7 +155,7 @@ products types ts = map (product_in types) ts
 
 -- the first sum has all that the second one has
 pub record Covers (s t : Sum) : Type 0 where
-  pub terms : AllByRecursion (λ u. Among u s.terms.items) t.terms.items
+  pub terms : AllByRecursion (λ u. IsOneOf u s.terms.items) t.terms.items
   pub constant : (t.constant ≡ None) ⊎ (s.constant ≡ t.constant)
 
 -- the new side has the product too, unless the other one has it

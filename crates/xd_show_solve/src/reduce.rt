@@ -3,10 +3,10 @@
 ghost use Rattle.std.specs.Prelude.{◌≡◌, ◌⊎◌, ◌<◌, List, None, true, IfOk, OnOk, length};
 ghost use Rattle.std.specs.List.{AllByRecursion};
 ghost use Rattle.std.specs.Option.{IfSome};
+ghost use Rattle.xd_doc.specs.Members.{IsOneOf};
 ghost use Rattle.xd_syntax.specs.Table.{Row};
 ghost use Rattle.xd_same_types.specs.Grown.{GrowsTypes};
 ghost use Rattle.xd_syntax.specs.Types.{BelongsTo};
-ghost use Rattle.xd_syntax.specs.Ways.{Among};
 ghost use Rattle.xd_show_solve.specs.Equations.{AddsProduct, AddsUnless, Covers, IsShort, SameSide, Shortens, SumStands, kept_constant, product_in, side_in};
 ghost use Rattle.xd_show_solve.specs.Systems.{AllStand, IsBefore, IsCovered, Reduces, Rewrites, summand_count};
 
@@ -19,7 +19,7 @@ use xd_syntax::{TypeForm, TypeId};
 
 /// Whether the term is among these.
 fn has_term(terms: &[Term], term: Term) -> bool
-    ensures { result ≡ true → Among term terms.now }
+    ensures { result ≡ true → IsOneOf term terms.now }
 {
     for other in terms {
         if other.to == term.to && other.by.at() == term.by.at() {
@@ -31,7 +31,7 @@ fn has_term(terms: &[Term], term: Term) -> bool
 
 /// Whether all of these terms are among the others.
 fn has_terms(terms: &[Term], few: &[Term]) -> bool
-    ensures { result ≡ true → AllByRecursion (λ u. Among u terms.now) few.now }
+    ensures { result ≡ true → AllByRecursion (λ u. IsOneOf u terms.now) few.now }
 {
     for term in few {
         if !has_term(terms, *term) {

@@ -6,6 +6,7 @@ use Rattle.std.proofs.lemmas.Bool.{and_parts, or_parts, or_from}
 use Rattle.std.proofs.lemmas.Slice.Eq.{bytes_eq-Decides}
 use Rattle.xd_doc.proofs.Lists.{word_equals}
 use Rattle.xd_doc.proofs.Bools.{or_second}
+use Rattle.xd_doc.specs.Members.{IsOneOf}
 use Rattle.xd_syntax.specs.Words.{any_word, string_word, has_word}
 use Rattle.xd_syntax.specs.Keywords.{keywords, is_type_name}
 use Rattle.xd_syntax.specs.Tree.{uses_only}
@@ -19,7 +20,7 @@ use Rattle.xd_syntax.specs.NameFaults.{Spot, duplicates, fault_if, known_types, 
 use Rattle.xd_syntax.specs.RecursionFaults.{Use, UseIn, not_tail, behind_type, top_uses, placed_body, Leads, arrived, use_then, AnyUse, IsFrontUse, IsOutsideTail, IsUnguarded, Keeps, all_seen, left_out, all_top_uses, IsSound}
 use Rattle.xd_syntax.specs.declared.fault.FaultKind.TheVariants.{UnknownType}
 use Rattle.xd_syntax.specs.declared.types.TypeId.{TypeId}
-use Rattle.xd_syntax.proofs.Members.{Among, mem_append, mem_map}
+use Rattle.xd_syntax.proofs.Members.{mem_append, mem_map}
 use Rattle.xd_syntax.proofs.Words.{bytes_eq-turned}
 use Rattle.xd_same_types.specs.Grown.{NamesAmong}
 use Rattle.xd_same_types.specs.Same.{tops_only}
@@ -85,7 +86,7 @@ none_unknown known (t ∷ ts) a = both_nothing (all_known known t.body a.0) (non
 
 -- ---- uses outside of labels
 -- such a use is of one of these names
-top_named : (known : List (List ℕ)) (T : PlacedTree) (u : Use) → tops_only known (unplaced T) ≡ true → Among u (top_uses T) → has_word known u.name ≡ true
+top_named : (known : List (List ℕ)) (T : PlacedTree) (u : Use) → tops_only known (unplaced T) ≡ true → IsOneOf u (top_uses T) → has_word known u.name ≡ true
 top_named known (Empty_at p) u e m = absurd m
 top_named known (Text_at p) u e m = absurd m
 top_named known (Words_at p w) u e m = absurd m
@@ -112,7 +113,7 @@ record IsUseOf (ts : List TypeDefinition) (known : List (List ℕ)) (w : UseIn) 
   named : has_word known (w.use_there).name ≡ true
 
 is_use : (known : List (List ℕ)) (ts : List TypeDefinition) → AllByRecursion (λ (t : TypeDefinition). tops_only known (unplaced t.body) ≡ true) ts →
-    (w : UseIn) → Among w (all_top_uses ts) → IsUseOf ts known w
+    (w : UseIn) → IsOneOf w (all_top_uses ts) → IsUseOf ts known w
 is_use known [] a w m = absurd m
 is_use known (t ∷ ts) a w m =
     let here : Use → UseIn = λ u. record { owner = t.name; use_there = u } in
@@ -137,7 +138,7 @@ no_chain : (P : ProgramTree) (A : Use → Type 0) {x y : List ℕ} → Leads P A
 no_chain P A arrived h k = let e : true ≡ false = sym k ∙ h in cc
 no_chain P A (use_then {x} s l) h k = let e = sym s.2 ∙ undefined P.types x h in cc
 
-kept_none : {A : Type 0} (Q : A → Type 0) (xs : List A) → ((x : A) → Among x xs → Q x → ⊥) → Keeps Q xs []
+kept_none : {A : Type 0} (Q : A → Type 0) (xs : List A) → ((x : A) → IsOneOf x xs → Q x → ⊥) → Keeps Q xs []
 kept_none Q [] h = all_seen
 kept_none Q (x ∷ xs) h = left_out (h x (inl refl)) (kept_none Q xs (λ y m. h y (inr m)))
 
@@ -177,13 +178,13 @@ module _ (types : List Row) (words : List (List ℕ)) (bodies : List TypeId) (ta
       let d : duplicates seen (spots_of P.types) ≡ [] = no_duplicates types seen words bodies (at_first words n.proper n.not_any) n.distinct in
       ap (λ fs. in_order (fs ++ [] ++ [] ++ unknown ++ [])) d ∙ ap (λ fs. in_order ([] ++ [] ++ [] ++ fs ++ [])) (none_unknown (known_types P) P.types used)
 
-  use_of : (w : UseIn) → Among w (all_top_uses P.types) → IsUseOf P.types (any_word ∷ []) w
+  use_of : (w : UseIn) → IsOneOf w (all_top_uses P.types) → IsUseOf P.types (any_word ∷ []) w
   use_of w m = is_use (any_word ∷ []) P.types guarded w m
 
   pub under_labels : UsesUnderLabels P
   under_labels w m = subst (λ x. has_word (defined_names P) x ≡ false) (any_alone (w.use_there).name (use_of w m).named) no_any
 
-  no_way_back : (A : Use → Type 0) (w : UseIn) → Among w (all_top_uses P.types) → Leads P A (w.use_there).name w.owner → ⊥
+  no_way_back : (A : Use → Type 0) (w : UseIn) → IsOneOf w (all_top_uses P.types) → Leads P A (w.use_there).name w.owner → ⊥
   no_way_back A w m l = no_chain P A l (under_labels w m) (use_of w m).owned
 
   pub sound : IsSound P

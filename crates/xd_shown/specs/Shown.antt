@@ -1,10 +1,10 @@
 -- A set of documents shown as definitions of types.
 use Rattle.std.specs.Prelude.{◌≡◌, ◌↔◌, ℕ, ◌+◌, true, false, List, [], ◌∷◌, ◌++◌, map, Some, codes, decimal, slice_get}
 use Rattle.xd_doc.specs.Document.{Document, is_proper}
+use Rattle.xd_doc.specs.Members.{IsOneOf}
 use Rattle.xd_syntax.specs.Words.{has_word}
 use Rattle.xd_syntax.specs.Tree.{Tree, Name, Elem}
 use Rattle.xd_syntax.specs.Fits.{Fits}
-use Rattle.xd_syntax.specs.Ways.{Among}
 use Rattle.xd_syntax.specs.Program.{TypeDefinition, ProgramTree, names_of}
 use Rattle.xd_syntax.specs.RecursionFaults.{UseIn, all_top_uses, IsSound}
 use Rattle.xd_type_laws.specs.DefinitionsText.{type_definitions}
@@ -25,7 +25,7 @@ defined_names P = map (λ (t : TypeDefinition). t.name) P.types
 
 -- no name that the program defines is used outside of every label
 abbrev pub UsesUnderLabels : ProgramTree → Type 0
-UsesUnderLabels P = (u : UseIn) → Among u (all_top_uses P.types) → has_word (defined_names P) (u.use_there).name ≡ false
+UsesUnderLabels P = (u : UseIn) → IsOneOf u (all_top_uses P.types) → has_word (defined_names P) (u.use_there).name ≡ false
 
 -- the label `none` around the name
 abbrev pub none_type : List ℕ → Tree

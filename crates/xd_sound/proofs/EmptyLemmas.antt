@@ -7,6 +7,7 @@ use Rattle.std.proofs.lemmas.List.{length_push, length-set, get_or-set_same, get
 use Rattle.std.proofs.lemmas.Bool.{cases_lt, cases_eq, and_from, or_left, or_right}
 use Rattle.std.proofs.lemmas.Slice.Eq.{bytes_eq-Decides}
 use Rattle.xd_doc.specs.Document.{Document, empty}
+use Rattle.xd_doc.specs.Members.{IsOneOf}
 use Rattle.xd_doc.proofs.Bools.{and_parts, or_cases}
 use Rattle.xd_doc.proofs.Options.{some_same}
 use Rattle.xd_doc.proofs.Joins.{joined_none}
@@ -22,7 +23,7 @@ use Rattle.xd_syntax.specs.SoundTables.{definition_of}
 use Rattle.xd_syntax.specs.declared.types.TypeDef.{TypeDef}
 use Rattle.xd_syntax.specs.declared.types.TypeId.{TypeId}
 use Rattle.xd_syntax.specs.Types.{type_numbers}
-use Rattle.xd_syntax.proofs.Members.{Among, append_left, append_right, mem_append}
+use Rattle.xd_syntax.proofs.Members.{append_left, append_right, mem_append}
 use Rattle.std.proofs.lemmas.List.{get_or_read}
 use Rattle.xd_sound.specs.TypeNames.{meanings, first_of, body_at}
 use Rattle.xd_sound.specs.Graph.{HasEdge, successors}
@@ -87,40 +88,40 @@ form_right types ds marks right (val_form x p i) e = F.fits_val (right i e)
 mark_other : (marks : List Bool) (i j : ℕ) → (j ≡ i → ⊥) → is_marked (set marks i true) j ≡ is_marked marks j
 mark_other marks i j n = get_or-set_other marks i j true false n
 
-all_changed : (marks : List Bool) (i : ℕ) (is : List ℕ) → all_marked marks is ≡ false → Among i is ⊎ (all_marked (set marks i true) is ≡ false)
+all_changed : (marks : List Bool) (i : ℕ) (is : List ℕ) → all_marked marks is ≡ false → IsOneOf i is ⊎ (all_marked (set marks i true) is ≡ false)
 all_changed marks i [] e = absurd (cc)
 all_changed marks i (j ∷ is) e = elim (cases_eq j i) [
   | inl q ↦ inl (inl q)
   | inr n ↦ go (is_marked marks j) (mark_other marks i j n) e (λ f. all_changed marks i is f)
 ]
   where
-    go : (b : Bool) → is_marked (set marks i true) j ≡ b → (b && all_marked marks is) ≡ false → (all_marked marks is ≡ false → Among i is ⊎ (all_marked (set marks i true) is ≡ false)) →
-        Among i (j ∷ is) ⊎ ((is_marked (set marks i true) j && all_marked (set marks i true) is) ≡ false)
+    go : (b : Bool) → is_marked (set marks i true) j ≡ b → (b && all_marked marks is) ≡ false → (all_marked marks is ≡ false → IsOneOf i is ⊎ (all_marked (set marks i true) is ≡ false)) →
+        IsOneOf i (j ∷ is) ⊎ ((is_marked (set marks i true) j && all_marked (set marks i true) is) ≡ false)
     go true q f rec = elim (rec f) [ inl a ↦ inl (inr a) | inr a ↦ inr (rw (q, a) refl) ]
     go false q f rec = inr (rw q refl)
 
-some_changed : (marks : List Bool) (i : ℕ) (is : List ℕ) → some_marked marks is ≡ false → Among i is ⊎ (some_marked (set marks i true) is ≡ false)
+some_changed : (marks : List Bool) (i : ℕ) (is : List ℕ) → some_marked marks is ≡ false → IsOneOf i is ⊎ (some_marked (set marks i true) is ≡ false)
 some_changed marks i [] e = inr refl
 some_changed marks i (j ∷ is) e = elim (cases_eq j i) [
   | inl q ↦ inl (inl q)
   | inr n ↦ go (is_marked marks j) (mark_other marks i j n) e (λ f. some_changed marks i is f)
 ]
   where
-    go : (b : Bool) → is_marked (set marks i true) j ≡ b → (b || some_marked marks is) ≡ false → (some_marked marks is ≡ false → Among i is ⊎ (some_marked (set marks i true) is ≡ false)) →
-        Among i (j ∷ is) ⊎ ((is_marked (set marks i true) j || some_marked (set marks i true) is) ≡ false)
+    go : (b : Bool) → is_marked (set marks i true) j ≡ b → (b || some_marked marks is) ≡ false → (some_marked marks is ≡ false → IsOneOf i is ⊎ (some_marked (set marks i true) is ≡ false)) →
+        IsOneOf i (j ∷ is) ⊎ ((is_marked (set marks i true) j || some_marked (set marks i true) is) ≡ false)
     go true q f rec = absurd (cc)
     go false q f rec = elim (rec f) [ inl a ↦ inl (inr a) | inr a ↦ inr (rw (q, a) refl) ]
 
-one_changed : (marks : List Bool) (i j : ℕ) → is_marked marks j ≡ false → Among i (j ∷ []) ⊎ (is_marked (set marks i true) j ≡ false)
+one_changed : (marks : List Bool) (i j : ℕ) → is_marked marks j ≡ false → IsOneOf i (j ∷ []) ⊎ (is_marked (set marks i true) j ≡ false)
 one_changed marks i j e = elim (cases_eq j i) [ inl q ↦ inl (inl q) | inr n ↦ inr (mark_other marks i j n ∙ e) ]
 
-form_changed : (ds : List TypeDef) (marks : List Bool) (i : ℕ) (f : Form) → form_marked marks ds f ≡ false → Among i (depends_on ds f) ⊎ (form_marked (set marks i true) ds f ≡ false)
+form_changed : (ds : List TypeDef) (marks : List Bool) (i : ℕ) (f : Form) → form_marked marks ds f ≡ false → IsOneOf i (depends_on ds f) ⊎ (form_marked (set marks i true) ds f ≡ false)
 form_changed ds marks i empty_form e = absurd (cc)
 form_changed ds marks i text_form e = inr refl
 form_changed ds marks i (words_form ws) e = inr refl
 form_changed ds marks i (name_form w) e = go (bytes_eq any_word w) (definition_of ds w) e
   where
-    go : (b : Bool) (o : Option TypeDef) → (b || body_marked marks o) ≡ false → Among i (body_number o) ⊎ ((b || body_marked (set marks i true) o) ≡ false)
+    go : (b : Bool) (o : Option TypeDef) → (b || body_marked marks o) ≡ false → IsOneOf i (body_number o) ⊎ ((b || body_marked (set marks i true) o) ≡ false)
     go true o k = absurd (cc)
     go false None k = inr refl
     go false (Some d) k = one_changed marks i d.body.at k
@@ -150,7 +151,7 @@ visited types ds marks waiting i m done = record {
     | inr (inr a) ↦ inr (inr a)
     | inr (inl a) ↦ elim (mem_append j waiting (i ∷ []) a) [
       | inl b ↦ inr (inl b)
-      | inr (inl q) ↦ subst (λ k. (is_marked marks k ≡ true) ⊎ (Among k waiting ⊎ (form_marked marks ds (form_at types k) ≡ false))) q (elim done [ inl d ↦ inl d | inr d ↦ inr (inr d) ])
+      | inr (inl q) ↦ subst (λ k. (is_marked marks k ≡ true) ⊎ (IsOneOf k waiting ⊎ (form_marked marks ds (form_at types k) ≡ false))) q (elim done [ inl d ↦ inl d | inr d ↦ inr (inr d) ])
       | inr (inr f) ↦ absurd f
     ]
   ];
@@ -196,7 +197,7 @@ marked_more types ds g marks waiting i b dep closed m li e =
     marked_now j q = let c = m.count in ap (is_marked (set marks i true)) q ∙ get_or-set_same marks i true false (omega arith)
 
 pub marking_none : (types : List Row) (ds : List TypeDef) (marks : List Bool) (waiting : List ℕ) → length marks ≡ length types → ((i : ℕ) → is_marked marks i ≡ false) →
-    ((i : ℕ) → i < length types → Among i waiting) → ((i : ℕ) → Among i waiting → i < length types) → IsMarking types ds marks waiting
+    ((i : ℕ) → i < length types → IsOneOf i waiting) → ((i : ℕ) → IsOneOf i waiting → i < length types) → IsMarking types ds marks waiting
 marking_none types ds marks waiting c n a w = record {
   count = c;
   right = λ i e. absurd (let q : false ≡ true = sym (n i) ∙ e in cc);
@@ -293,14 +294,14 @@ module _ (types : List Row) (ds : List TypeDef) (marks : List Bool) where
   abbrev N : List ℕ → Bool
   N = name_marked marks ds
 
-  all_up : (is : List ℕ) → ((i : ℕ) → Among i is → empty_by N (tree_at types i) ≡ true → is_marked marks i ≡ true) → empty_by N (seq_of (map (tree_at types) is)) ≡ true → all_marked marks is ≡ true
+  all_up : (is : List ℕ) → ((i : ℕ) → IsOneOf i is → empty_by N (tree_at types i) ≡ true → is_marked marks i ≡ true) → empty_by N (seq_of (map (tree_at types) is)) ≡ true → all_marked marks is ≡ true
   all_up [] h e = refl
   all_up (i ∷ []) h e = and_from (is_marked marks i) true (h i (inl refl) e) refl
   all_up (i ∷ (j ∷ js)) h e =
       let r = and_parts (empty_by N (tree_at types i)) (empty_by N (seq_of (map (tree_at types) (j ∷ js)))) e in
       and_from (is_marked marks i) (all_marked marks (j ∷ js)) (h i (inl refl) r.0) (all_up (j ∷ js) (λ k a. h k (inr a)) r.1)
 
-  some_up : (is : List ℕ) → 1 ≤ length is → ((i : ℕ) → Among i is → empty_by N (tree_at types i) ≡ true → is_marked marks i ≡ true) → empty_by N (alt_of (map (tree_at types) is)) ≡ true → some_marked marks is ≡ true
+  some_up : (is : List ℕ) → 1 ≤ length is → ((i : ℕ) → IsOneOf i is → empty_by N (tree_at types i) ≡ true → is_marked marks i ≡ true) → empty_by N (alt_of (map (tree_at types) is)) ≡ true → some_marked marks is ≡ true
   some_up [] l h e = absurd (omega arith)
   some_up (i ∷ []) l h e = or_left (is_marked marks i) false (h i (inl refl) e)
   some_up (i ∷ (j ∷ js)) l h e = elim (or_cases (empty_by N (tree_at types i)) (empty_by N (alt_of (map (tree_at types) (j ∷ js)))) e) [
@@ -308,7 +309,7 @@ module _ (types : List Row) (ds : List TypeDef) (marks : List Bool) where
     | inr a ↦ or_right (is_marked marks i) (some_marked marks (j ∷ js)) (some_up (j ∷ js) (omega arith) (λ k b. h k (inr b)) a)
   ]
 
-  below_all : (n : ℕ) (is : List ℕ) → AllByRecursion (λ i. i < n) is → (i : ℕ) → Among i is → i < n
+  below_all : (n : ℕ) (is : List ℕ) → AllByRecursion (λ i. i < n) is → (i : ℕ) → IsOneOf i is → i < n
   below_all n [] a i f = absurd f
   below_all n (j ∷ js) a i (inl q) = subst (λ x. x < n) q a.0
   below_all n (j ∷ js) a i (inr f) = below_all n js a.1 i f
@@ -405,7 +406,7 @@ bodies_below types n l (d ∷ ds) a = let b = (a.0).body in (omega arith, bodies
 pub defined_at : (ds : List TypeDef) (w : List ℕ) (k : ℕ) (d : TypeDef) → first_of ds w ≡ Some k → (k < length ds) × (definition_of ds w ≡ Some (get_or ds k d))
 defined_at ds w k d e = let r = first_found 0 ds w k e in let h = r.high in let z : k - 0 ≡ k = omega arith in (omega arith, r.defined d ∙ ap (λ i. Some (get_or ds i d)) z)
 
-pub among_one : {A : Type 0} (x : A) (xs : List A) → Among x (xs ++ x ∷ [])
+pub among_one : {A : Type 0} (x : A) (xs : List A) → IsOneOf x (xs ++ x ∷ [])
 among_one x xs = append_right x xs (x ∷ []) (inl refl)
 
 -- the last node that waits is one of the table, and has a mark
@@ -462,8 +463,8 @@ marked_none marks (Some d) e = absurd (cc)
 pub record IsListed (marks : List Bool) (waiting : List ℕ) (n : ℕ) : Type 0 where
   pub count : length marks ≡ n
   pub none : (i : ℕ) → is_marked marks i ≡ false
-  pub all : (i : ℕ) → i < n → Among i waiting
-  pub within : (i : ℕ) → Among i waiting → i < n
+  pub all : (i : ℕ) → i < n → IsOneOf i waiting
+  pub within : (i : ℕ) → IsOneOf i waiting → i < n
 
 pub unmarked_push : (marks : List Bool) → ((i : ℕ) → is_marked marks i ≡ false) → (i : ℕ) → is_marked (marks ++ false ∷ []) i ≡ false
 unmarked_push [] h zero = refl

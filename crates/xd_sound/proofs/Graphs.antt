@@ -2,17 +2,18 @@
 use Rattle.std.proofs.Common.{◌≡◌, ℕ, zero, suc, ◌<◌, arith, ◌⊎◌, List, [], ◌∷◌, ◌++◌, map, length, get_or, set, refl, ap, sym, subst, ◌∙◌, inl, inr}
 use Rattle.std.proofs.lemmas.List.{length-set, length-map, get_or-map, get_or-set_same, get_or-set_other, map-set}
 use Rattle.std.proofs.lemmas.Bool.{cases_eq}
-use Rattle.xd_syntax.proofs.Members.{Among, mem_append, append_left, append_right}
+use Rattle.xd_doc.specs.Members.{IsOneOf}
+use Rattle.xd_syntax.proofs.Members.{mem_append, append_left, append_right}
 use Rattle.xd_sound.specs.Graph.{successors, HasEdge, IsClosed}
 
 -- what a node's edges are once they are written anew
-pub edges_set : (g : List (List ℕ)) (i : ℕ) (xs : List ℕ) (v w : ℕ) → i < length g → HasEdge (set g i xs) v w → ((v ≡ i) × Among w xs) ⊎ HasEdge g v w
+pub edges_set : (g : List (List ℕ)) (i : ℕ) (xs : List ℕ) (v w : ℕ) → i < length g → HasEdge (set g i xs) v w → ((v ≡ i) × IsOneOf w xs) ⊎ HasEdge g v w
 edges_set g i xs v w l h = elim (cases_eq v i) [
-  | inl e ↦ inl (e, subst (Among w) (get_or-set_same g i xs [] l) (subst (λ x. Among w (get_or (set g i xs) x [])) e h))
-  | inr n ↦ inr (subst (Among w) (get_or-set_other g i v xs [] n) h)
+  | inl e ↦ inl (e, subst (IsOneOf w) (get_or-set_same g i xs [] l) (subst (λ x. IsOneOf w (get_or (set g i xs) x [])) e h))
+  | inr n ↦ inr (subst (IsOneOf w) (get_or-set_other g i v xs [] n) h)
 ]
 
-pub closed_set : (g : List (List ℕ)) (i : ℕ) (xs : List ℕ) → IsClosed g → i < length g → ((w : ℕ) → Among w xs → w < length g) → IsClosed (set g i xs)
+pub closed_set : (g : List (List ℕ)) (i : ℕ) (xs : List ℕ) → IsClosed g → i < length g → ((w : ℕ) → IsOneOf w xs → w < length g) → IsClosed (set g i xs)
 closed_set g i xs c l h v w e =
     let n = length-set g i xs in
     elim (edges_set g i xs v w l e) [ inl a ↦ (let k = h w a.1 in omega arith) | inr o ↦ (let k = c v w o in omega arith) ]
@@ -40,14 +41,14 @@ pub edges_kept : (g : List (List ℕ)) (from to v w : ℕ) → from < length g �
 edges_kept g from to v w l h = elim (cases_eq v from) [
   | inl e ↦
       subst (λ x. HasEdge (with_edge g from to) x w) (sym e)
-      (subst (Among w) (sym (get_or-set_same g from (successors g from ++ to ∷ []) [] l))
+      (subst (IsOneOf w) (sym (get_or-set_same g from (successors g from ++ to ∷ []) [] l))
       (append_left w (successors g from) (to ∷ []) (subst (λ x. HasEdge g x w) e h)))
-  | inr n ↦ subst (Among w) (sym (get_or-set_other g from v (successors g from ++ to ∷ []) [] n)) h
+  | inr n ↦ subst (IsOneOf w) (sym (get_or-set_other g from v (successors g from ++ to ∷ []) [] n)) h
 ]
 
 pub edge_made : (g : List (List ℕ)) (from to : ℕ) → from < length g → HasEdge (with_edge g from to) from to
 edge_made g from to l =
-    subst (Among to) (sym (get_or-set_same g from (successors g from ++ to ∷ []) [] l)) (append_right to (successors g from) (to ∷ []) (inl refl))
+    subst (IsOneOf to) (sym (get_or-set_same g from (successors g from ++ to ∷ []) [] l)) (append_right to (successors g from) (to ∷ []) (inl refl))
 
 -- the list after a list that is written anew
 pub view_set : {A : Type 0} (f : A → List ℕ) (ts : List A) (i : ℕ) (v : A) (xs : List ℕ) → f v ≡ xs → map f (set ts i v) ≡ set (map f ts) i xs
@@ -69,7 +70,7 @@ closed_kept f ts i old new l e n c =
     subst IsClosed (sym (view_set f ts i new s (n ∙ edges_read f ts i old l e))) (closed_set (map f ts) i s c k (λ w a. c i w a))
 
 pub no_edges : (g : List (List ℕ)) → ((v : ℕ) → successors g v ≡ []) → (v w : ℕ) → HasEdge g v w → ⊥
-no_edges g h v w m = subst (Among w) (h v) m
+no_edges g h v w m = subst (IsOneOf w) (h v) m
 
 pub bare_more : {A : Type 0} (f : A → List ℕ) (ts : List A) (new : A) → f new ≡ [] → ((v : ℕ) → successors (map f ts) v ≡ []) → (v : ℕ) → successors (map f (ts ++ new ∷ [])) v ≡ []
 bare_more f [] new e h zero = e

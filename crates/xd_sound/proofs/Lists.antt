@@ -2,7 +2,7 @@
 use Rattle.std.proofs.Common.{◌≡◌, ℕ, zero, suc, ◌<◌, arith, List, [], ◌∷◌, ◌++◌, length, get_or, refl, sym, subst, inl, inr}
 use Rattle.std.proofs.lemmas.List.{length_push, get_or_append_left, get_or_push}
 use Rattle.std.proofs.lemmas.Bool.{cases_lt}
-use Rattle.xd_syntax.proofs.Members.{Among}
+use Rattle.xd_doc.specs.Members.{IsOneOf}
 
 abbrev pub AllAt : {A : Type 0} → A → (A → Type 0) → List A → Type 0
 AllAt d Q xs = (k : ℕ) → k < length xs → Q (get_or xs k d)
@@ -23,12 +23,12 @@ pub all_last : {A : Type 0} (d : A) (Q : A → Type 0) (xs : List A) (x : A) →
 all_last d Q xs x h = let n = length_push xs x in subst Q (get_or_push xs x d (length xs) refl) (h (length xs) (omega arith))
 
 -- a member stands at some place
-pub place_in : (x : ℕ) (xs : List ℕ) → Among x xs → (k : ℕ) × (k < length xs) × (get_or xs k 0 ≡ x)
+pub place_in : (x : ℕ) (xs : List ℕ) → IsOneOf x xs → (k : ℕ) × (k < length xs) × (get_or xs k 0 ≡ x)
 place_in x [] m = absurd m
 place_in x (y ∷ xs) (inl e) = (0, omega arith, e)
 place_in x (y ∷ xs) (inr m) = let r = place_in x xs m in let l = r.1 in (suc r.0, omega arith, r.2)
 
-pub among_at : {A : Type 0} (d : A) (xs : List A) (k : ℕ) → k < length xs → Among (get_or xs k d) xs
+pub among_at : {A : Type 0} (d : A) (xs : List A) (k : ℕ) → k < length xs → IsOneOf (get_or xs k d) xs
 among_at d [] k l = absurd (omega arith)
 among_at d (x ∷ xs) zero l = inl refl
 among_at d (x ∷ xs) (suc k) l = inr (among_at d xs k (omega arith))

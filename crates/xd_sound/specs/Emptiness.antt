@@ -3,10 +3,10 @@ use Rattle.std.specs.Prelude.{◌≡◌, ℕ, ◌<◌, ◌≤◌, Bool, true, fa
 use Rattle.std.specs.List.{AllByRecursion}
 use Rattle.std.specs.Str.{bytes_eq}
 use Rattle.xd_doc.specs.Document.{empty}
+use Rattle.xd_doc.specs.Members.{IsOneOf}
 use Rattle.xd_syntax.specs.Words.{any_word}
 use Rattle.xd_syntax.specs.Table.{Row, Form, empty_form, name_form, seq_form, alt_form, star_form, plus_form, opt_form, val_form, form_tree, tree_at, PartsBelow, CanFollow}
 use Rattle.xd_syntax.specs.Fits.{Fits}
-use Rattle.xd_syntax.specs.Ways.{Among}
 use Rattle.xd_syntax.specs.SoundTables.{definition_of}
 use Rattle.xd_syntax.specs.declared.types.TypeDef.{TypeDef}
 use Rattle.xd_sound.specs.Graph.{HasEdge}
@@ -80,17 +80,17 @@ AreRead types = (i : ℕ) → i < length types → IsRead types i
 -- an edge leads from each node to those that depend on it
 pub record AreDependents (types : List Row) (ds : List TypeDef) (g : List (List ℕ)) : Type 0 where
   pub count : length g ≡ length types
-  pub all : (i j : ℕ) → i < length types → Among j (depends_on ds (form_at types i)) → HasEdge g j i
+  pub all : (i j : ℕ) → i < length types → IsOneOf j (depends_on ds (form_at types i)) → HasEdge g j i
 
 -- edges to a node are added, one from each of these at least
 pub record AddsEdges (old new : List (List ℕ)) (at : ℕ) (from : List ℕ) : Type 0 where
   pub count : length new ≡ length old
   pub kept : (v w : ℕ) → HasEdge old v w → HasEdge new v w
-  pub added : (j : ℕ) → Among j from → HasEdge new j at
+  pub added : (j : ℕ) → IsOneOf j from → HasEdge new j at
 
 -- Marks are right; a node without one that could have one is still to be visited.
 pub record IsMarking (types : List Row) (ds : List TypeDef) (marks : List Bool) (waiting : List ℕ) : Type 0 where
   pub count : length marks ≡ length types
   pub right : (i : ℕ) → is_marked marks i ≡ true → Fits (meanings types ds) (tree_at types i) empty
-  pub pending : (i : ℕ) → i < length types → (is_marked marks i ≡ true) ⊎ (Among i waiting ⊎ (form_marked marks ds (form_at types i) ≡ false))
-  pub within : (i : ℕ) → Among i waiting → i < length types
+  pub pending : (i : ℕ) → i < length types → (is_marked marks i ≡ true) ⊎ (IsOneOf i waiting ⊎ (form_marked marks ds (form_at types i) ≡ false))
+  pub within : (i : ℕ) → IsOneOf i waiting → i < length types

@@ -3,7 +3,7 @@ use Rattle.std.proofs.Common.{◌≡◌, ℕ, Bool, true, false, List, refl, sym
 use Rattle.std.specs.Str.{bytes_eq}
 use Rattle.std.proofs.lemmas.Slice.Eq.{bytes_eq-Decides}
 use Rattle.std.specs.List.{slice_get, filter}
-use Rattle.xd_syntax.specs.Ways.{Among}
+use Rattle.xd_doc.specs.Members.{IsOneOf}
 use Rattle.xd_syntax.specs.Words.{has_word}
 
 -- words that differ, differ the other way round
@@ -16,7 +16,7 @@ bytes_eq-turned a b h = go (bytes_eq b a) refl
         let q : b ≡ a = (bytes_eq-Decides b a).0 e in
         let k : bytes_eq a b ≡ true = (bytes_eq-Decides a b).1 (sym q) in cc
 
-pub got_among : (ls : List (List ℕ)) (k : ℕ) (xs : List ℕ) → slice_get ls k ≡ Some xs → Among xs ls
+pub got_among : (ls : List (List ℕ)) (k : ℕ) (xs : List ℕ) → slice_get ls k ≡ Some xs → IsOneOf xs ls
 got_among [] k xs h = cc
 got_among (l ∷ ls) zero xs h = inl (cc)
 got_among (l ∷ ls) (suc k) xs h = inr (got_among ls k xs h)

@@ -4,11 +4,12 @@
 use Rattle.std.specs.Prelude.{◌≡◌, ℕ, Bool, true, false, ◌⊎◌, List, [], ◌∷◌, map, Option, Some, None}
 use Rattle.std.specs.Str.{bytes_eq}
 use Rattle.xd_doc.specs.Document.{Document, empty, text, element, is_proper}
+use Rattle.xd_doc.specs.Members.{IsOneOf}
 use Rattle.xd_syntax.specs.Words.{has_word}
 use Rattle.xd_syntax.specs.Tree.{Definitions}
 use Rattle.xd_syntax.specs.Placed.{PlacedTree, unplaced, variables}
 use Rattle.xd_syntax.specs.Fits.{Fits, Split}
-use Rattle.xd_syntax.specs.Ways.{Way, Among, IsWholeWay, Takes}
+use Rattle.xd_syntax.specs.Ways.{Way, IsWholeWay, Takes}
 use Rattle.xd_syntax.specs.Expression.{Expression, Nothing, Quoted, Variable, Tagged, Joined, Called, Matched, Clauses, no_clause, clause}
 use Rattle.xd_syntax.specs.Program.{Parameter, FunctionDefinition, ProgramTree, names_of, function_of}
 
@@ -49,7 +50,7 @@ IsLive E A earlier P = (d : Document) × Arrives E A earlier d × Takes E (unpla
 -- document
 abbrev pub MayBind : Definitions → (Document → Type 0) → List PlacedTree → PlacedTree → List ℕ → Document → Type 0
 MayBind E A earlier P x d =
-    (whole : Document) × (way : Way) × Arrives E A earlier whole × IsWholeWay E (unplaced P) whole way × Among (x, d) way.bindings
+    (whole : Document) × (way : Way) × Arrives E A earlier whole × IsWholeWay E (unplaced P) whole way × IsOneOf (x, d) way.bindings
 
 -- the first fact where the test holds, else the second
 abbrev pub WhereTrue : Bool → Type 0 → Type 0 → Type 0

@@ -3,10 +3,10 @@ use Rattle.std.specs.Prelude.{◌≡◌, ℕ, Bool, true, false, cond, List, [],
 use Rattle.std.specs.Str.{bytes_eq}
 use Rattle.xd_base.specs.declared.Place.{Place}
 use Rattle.xd_doc.specs.Document.{empty}
+use Rattle.xd_doc.specs.Members.{IsOneOf}
 use Rattle.xd_syntax.specs.Tree.{Tree, Definitions}
 use Rattle.xd_syntax.specs.Placed.{PlacedTree, Name_at, Seq_at, Alt_at, Star_at, Plus_at, Opt_at, Val_at, unplaced}
 use Rattle.xd_syntax.specs.Fits.{Fits}
-use Rattle.xd_syntax.specs.Ways.{Among}
 use Rattle.xd_syntax.specs.Program.{TypeDefinition, ProgramTree, names_of}
 use Rattle.xd_syntax.specs.Order.{in_order}
 use Rattle.xd_syntax.specs.NameFaults.{fault_at, name_faults}
@@ -55,7 +55,7 @@ placed_body (t ∷ ts) x = cond (bytes_eq t.name x) (Some t.body) (placed_body t
 -- a use of the second name outside every label of the definition of the first, which the fact
 -- allows
 abbrev pub UsesAtTop : ProgramTree → (Use → Type 0) → List ℕ → List ℕ → Type 0
-UsesAtTop P A x y = (T : PlacedTree) × (u : Use) × (placed_body P.types x ≡ Some T) × Among u (top_uses T) × (u.name ≡ y) × A u
+UsesAtTop P A x y = (T : PlacedTree) × (u : Use) × (placed_body P.types x ≡ Some T) × IsOneOf u (top_uses T) × (u.name ≡ y) × A u
 
 -- a chain of such uses leads from the first name to the second, or they are the same
 pub data Leads (P : ProgramTree) (A : Use → Type 0) : List ℕ → List ℕ → Type 0 where

@@ -3,6 +3,7 @@
 -- project's own).
 use Rattle.std.specs.Prelude.{◌≡◌, ℕ, suc, zero, ◌+◌, ◌*◌, nat_lt, Bool, true, not, cond, ◌⊎◌, List, [], ◌∷◌, ◌++◌, map, flat_map, Option, Some, None, length}
 use Rattle.xd_doc.specs.Document.{Document, empty, text, element, join, size, has_item}
+use Rattle.xd_doc.specs.Members.{IsOneOf}
 use Rattle.xd_doc.specs.Classes.{LabelClass, TextClass, class_has}
 use Rattle.xd_syntax.specs.Tree.{Tree, Empty, Text, Words, Name, Elem, Seq, Alt, Star, Plus, Opt, Val, Definitions, body}
 
@@ -103,14 +104,9 @@ unfoldings E d = (size d + 1) * (length E + 1)
 abbrev pub ways : Definitions → Tree → Document → List Way
 ways E P d = ways_within E (unfoldings E d) P d
 
--- membership
-abbrev pub Among : {A : Type 0} → A → List A → Type 0
-Among x [] = ⊥
-Among x (y ∷ ys) = (y ≡ x) ⊎ Among x ys
-
 -- a way that takes the whole document
 abbrev pub IsWholeWay : Definitions → Tree → Document → Way → Type 0
-IsWholeWay E P d w = Among w (ways E P d) × (is_whole w ≡ true)
+IsWholeWay E P d w = IsOneOf w (ways E P d) × (is_whole w ≡ true)
 
 -- the pattern takes the document
 abbrev pub Takes : Definitions → Tree → Document → Type 0

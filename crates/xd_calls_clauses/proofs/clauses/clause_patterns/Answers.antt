@@ -1,9 +1,9 @@
 use Rattle.std.proofs.Common.{◌≡◌, ℕ, ◌<◌, List, map, length, Some, ap, sym, subst, ◌∙◌}
 use Rattle.std.specs.List.{All, AllByRecursion, slice_get}
 use Rattle.std.proofs.lemmas.List.Elements.{All-from_recursion}
+use Rattle.xd_doc.specs.Members.{IsOneOf}
 use Rattle.xd_syntax.specs.Placed.{PlacedTree}
 use Rattle.xd_syntax.specs.PlacedTable.{placed_at}
-use Rattle.xd_syntax.specs.Ways.{Among}
 use Rattle.xd_syntax.specs.Program.{ProgramTree}
 use Rattle.xd_syntax.specs.Expression.{Expression, Matched}
 use Rattle.xd_syntax.specs.ExpressionTable.{ExprRow, PatternsBelong, ShapePatternsBelong, clauses_of, expression_at, match_shape, shape_expression}
@@ -39,10 +39,10 @@ returns-in-Match c =
     let stands : PatternsBelong m c.exprs.result.now = subst (λ (q : ProgramTable). PatternsBelong (length q.patterns) c.exprs.result.now) c.program-program.ensures.program
     (subst (PatternsBelong (length c.program-program.result.now.patterns)) (sym c.exprs.ensures.exprs) c.exprs.ensures.stands.clauses) in
     let there : AllByRecursion (λ (k : ℕ × ℕ). k.0 < m) (clause_numbers cs) = subst (ShapePatternsBelong m) form (c.node.ensures.clauses m stands) in
-    let mine : Among (function_definition p f) P.functions = map_mem (function_definition p) f p.functions (first_among f p.functions first) in
+    let mine : IsOneOf (function_definition p f) P.functions = map_mem (function_definition p) f p.functions (first_among f p.functions first) in
     let linear : AreLinear (patterns_in (t f.body.at)) = λ A h. c.programs_are_linear.ensures.clauses P c.program-program.ensures.sound.names (function_definition p f) mine A h in
     let rest : List PlacedTree = patterns_in_clauses (clauses_of (placed_at p.patterns) t (clause_numbers cs)) in
-    let inner : AreLinear rest = λ A h. linear A (subst (λ y. Among A (patterns_in y)) (sym tree) (append_right A (patterns_in (t i)) rest h)) in
+    let inner : AreLinear rest = λ A h. linear A (subst (λ y. IsOneOf A (patterns_in y)) (sym tree) (append_right A (patterns_in (t i)) rest h)) in
     let all : All (IsLinearPattern p.patterns) (map (λ (k : Clause). k.pattern) cs)
     = All-from_recursion (IsLinearPattern p.patterns) (map (λ (k : Clause). k.pattern) cs) (linear_in_clauses p.patterns t cs there inner) in
     if_ok_then (λ ps. ps.items ≡ map (λ (k : Clause). k.pattern) cs) (λ ps. All (IsLinearPattern p.patterns) ps.items) c.patterns_of.result

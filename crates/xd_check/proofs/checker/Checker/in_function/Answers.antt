@@ -2,10 +2,10 @@ use Rattle.std.proofs.lemmas.Result.{IfOk-from_err}
 use Rattle.std.proofs.Common.{◌≡◌, ◌<◌, List, [], get_or, length, ap, sym, subst, ◌∙◌}
 use Rattle.std.proofs.lemmas.List.{get_or_default}
 use Rattle.xd_doc.proofs.Lists.{all_get}
+use Rattle.xd_doc.specs.Members.{IsOneOf}
 use Rattle.xd_syntax.specs.FunctionRow.{FunctionRow}
 use Rattle.xd_syntax.specs.Kept.{FunctionStands, ProgramStands, ProgramTable, function_definition, program_tree}
 use Rattle.xd_syntax.specs.Program.{ProgramTree}
-use Rattle.xd_syntax.specs.Ways.{Among}
 use Rattle.xd_syntax.specs.NameFaults.{name_faults}
 use Rattle.xd_sound.proofs.Lists.{among_at}
 use Rattle.xd_syntax.proofs.Members.{map_mem}
@@ -27,7 +27,7 @@ in_body-requires c =
     let there : FunctionStands p.types p.exprs f = subst (FunctionStands p.types p.exprs) (sym at) (all_get (FunctionStands p.types p.exprs) p.functions c.args.number f stands.functions c.requires.number) in
     let g : Signature = c.index-rows-number.result in
     let row : g ≡ get_or c.args.self.now.signatures.rows.items c.args.number g = c.index-rows-number.is ∙ ap (λ gs. get_or gs c.args.number g) c.rows.ensures in
-    let mine : Among (function_definition p f) P.functions = map_mem (function_definition p) f p.functions (subst (λ x. Among x p.functions) (sym at) (among_at f p.functions c.args.number c.requires.number)) in
+    let mine : IsOneOf (function_definition p f) P.functions = map_mem (function_definition p) f p.functions (subst (λ x. IsOneOf x p.functions) (sym at) (among_at f p.functions c.args.number c.requires.number)) in
     let faults : name_faults P ≡ [] = c.program.ensures.sound.names in
     record {
       ready = c.requires.ready;
