@@ -6,9 +6,10 @@ use Rattle.xd_syntax.specs.Shallow.{nesting_limit}
 use Rattle.xd_grammar.specs.declared.grammar.Nonterminal.{Nonterminal}
 use Rattle.xd_grammar.specs.declared.grammar.Symbol.TheVariants.{Token, Opening, Closed, Unless, Part}
 use Rattle.xd_grammar.specs.declared.grammar.Terminal.{Terminal}
-use Rattle.xd_grammar.specs.Grammar.{Row, rules, IsOneOf, Whole, Derives, token, opening, closed, unless, by}
+use Rattle.xd_doc.specs.Members.{IsOneOf}
+use Rattle.xd_grammar.specs.Grammar.{Row, rules, Entire, Derives, token, opening, closed, unless, by}
 use Rattle.xd_grammar.specs.Fits.{same, first_fit}
-use Rattle.xd_grammar.specs.Text.{terminals_of, terminal_at}
+use Rattle.xd_grammar.specs.Text.{terminals_at, terminal_at}
 use Rattle.xd_parse_trees.specs.Means.{Means, ends, a_token, an_opening, a_closing, a_bar, a_part}
 use Rattle.xd_parse_trees.specs.Values.{Value, token_value, value_of}
 use Rattle.xd_grammar.proofs.Derive.{same-true, same-false, chosen_is}
@@ -51,7 +52,7 @@ read_row (suc f) d (Part part ∷ row) (l ∷ ls) =
 -- after it.
 pub record IsRead (level : ℕ) (row : Row) (ls : List Lexeme) (r : Read) : Type 0 where
   pub means : Means row ls r.to r.values
-  pub derives : (more : Row) → Derives Whole nesting_limit r.level more (terminals_of r.to) → Derives Whole nesting_limit level (row ++ more) (terminals_of ls)
+  pub derives : (more : Row) → Derives Entire nesting_limit r.level more (terminals_at r.to) → Derives Entire nesting_limit level (row ++ more) (terminals_at ls)
 
 abbrev Holds : (level : ℕ) → Row → List Lexeme → Option Read → Type 0
 Holds d row ls None = Unit {0}

@@ -11,7 +11,7 @@ use Rattle.xd_grammar.specs.declared.machine.Course.{Course}
 use Rattle.xd_grammar.specs.declared.machine.Course.TheVariants.{Both, Main, Listed}
 use Rattle.xd_grammar.specs.declared.machine.Step.{Step}
 use Rattle.xd_grammar.specs.declared.machine.Step.TheVariants.{Next, Syntax, TooDeep}
-use Rattle.xd_grammar.specs.Grammar.{Row, rules, Extent, Front, Derives, token}
+use Rattle.xd_grammar.specs.Grammar.{Row, rules, Extent, Partial, Derives, token}
 use Rattle.xd_grammar.specs.Fits.{same, first_fit}
 use Rattle.xd_grammar.specs.Machine.{main_row, listed_row, Reads, course, Turns, Passes, Advances, Shifts}
 use Rattle.xd_grammar.proofs.Derive.{view, same-true, same-false, is_group}
@@ -183,7 +183,7 @@ one_advances reading d row rest k TooDeep f q one s = record {
   dead = λ e ts g. s.dead e ts (one.0 e nesting_limit d ts (omega arith) g);
   limit = s.limit;
   above = s.above;
-  alive = one.1 Front s.limit d [] s.above s.alive;
+  alive = one.1 Partial s.limit d [] s.above s.alive;
 }
 
 main_one : (reading : Reading) (k : Terminal) (row : Row) → IsRight Main reading k row → OneIs reading k row (main_row reading ++ row)

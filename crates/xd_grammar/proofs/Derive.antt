@@ -9,7 +9,8 @@ use Rattle.xd_grammar.specs.declared.grammar.Sort.TheVariants as sorts
 use Rattle.xd_grammar.specs.declared.grammar.Symbol.TheVariants.{Token, Opening, Closed, Unless, Part}
 use Rattle.xd_grammar.specs.declared.grammar.Terminal.{Terminal}
 use Rattle.xd_grammar.specs.declared.grammar.Terminal.TheVariants as t
-use Rattle.xd_grammar.specs.Grammar.{Row, rules, IsOneOf, Extent, Derives, end, token, opening, closed, unless, by}
+use Rattle.xd_doc.specs.Members.{IsOneOf}
+use Rattle.xd_grammar.specs.Grammar.{Row, rules, Extent, Derives, end, token, opening, closed, unless, by}
 use Rattle.xd_grammar.specs.Fits.{number, same, fits, first_fit}
 
 abbrev pub View : Extent → ℕ → ℕ → Row → Terminal → List Terminal → Type 0
@@ -77,7 +78,7 @@ may (suc f) (Part part ∷ row) k = any_row (λ (r : Row). may f (r ++ row) k) (
 
 pub any_of : (p : Row → Bool) (rs : List Row) (made : Row) → IsOneOf made rs → p made ≡ true → any_row p rs ≡ true
 any_of p [] made one h = absurd one
-any_of p (r ∷ rs) made (inl e) h = let q : p r ≡ true = subst (λ (x : Row). p x ≡ true) e h in rw q refl
+any_of p (r ∷ rs) made (inl e) h = let q : p r ≡ true = subst (λ (x : Row). p x ≡ true) (sym e) h in rw q refl
 any_of p (r ∷ rs) made (inr one) h = let q : any_row p rs ≡ true = any_of p rs made one h in elim (p r) as (λ b. cond b true (any_row p rs) ≡ true) [ true ↦ refl | false ↦ q ]
 
 pub may-true : (f : ℕ) (made row : Row) (e : Extent) (limit depth : ℕ) (k : Terminal) (ts : List Terminal) → Derives e limit depth (made ++ row) (k ∷ ts) → may f made k ≡ true
@@ -124,22 +125,22 @@ some_of false r o made h = inr h
 
 none_of : (rs : List Row) (k : Terminal) → none_may rs k ≡ true → (made : Row) → IsOneOf made rs → may 8 made k ≡ true → ⊥
 none_of [] k h made one m = absurd one
-none_of (r ∷ rs) k h made (inl e) m = let q : may 8 r k ≡ true = subst (λ (x : Row). may 8 x k ≡ true) e m in not_both (cond (may 8 r k) false (none_may rs k)) h (rw q refl)
+none_of (r ∷ rs) k h made (inl e) m = let q : may 8 r k ≡ true = subst (λ (x : Row). may 8 x k ≡ true) (sym e) m in not_both (cond (may 8 r k) false (none_may rs k)) h (rw q refl)
 none_of (r ∷ rs) k h made (inr one) m = none_of rs k (right_of (may 8 r k) (none_may rs k) h) made one m
 
 pub chosen_none : (rs : List Row) (k : Terminal) → first_fit rs k ≡ None → (made : Row) → IsOneOf made rs → fits made k ≡ true → ⊥
 chosen_none [] k h made one m = absurd one
-chosen_none (r ∷ rs) k h made (inl e) m = let q : fits r k ≡ true = subst (λ (x : Row). fits x k ≡ true) e m in some_none r (rw q at h)
+chosen_none (r ∷ rs) k h made (inl e) m = let q : fits r k ≡ true = subst (λ (x : Row). fits x k ≡ true) (sym e) m in some_none r (rw q at h)
 chosen_none (r ∷ rs) k h made (inr one) m = chosen_none rs k (none_right (fits r k) r (first_fit rs k) h) made one m
 
 pub chosen_is : (rs : List Row) (k : Terminal) (made : Row) → first_fit rs k ≡ Some made → IsOneOf made rs
 chosen_is [] k made h = absurd (none_some made h)
-chosen_is (r ∷ rs) k made h = elim (some_of (fits r k) r (first_fit rs k) made h) [ inl e ↦ inl (sym e) | inr g ↦ inr (chosen_is rs k made g) ]
+chosen_is (r ∷ rs) k made h = elim (some_of (fits r k) r (first_fit rs k) made h) [ inl e ↦ inl e | inr g ↦ inr (chosen_is rs k made g) ]
 
 chosen_at : (r : Row) (rs : List Row) (k : Terminal) (b : Bool) → fits r k ≡ b → decided (r ∷ rs) k ≡ true → (made : Row) → first_fit (r ∷ rs) k ≡ Some made → (other : Row) → IsOneOf other (r ∷ rs) → fits other k ≡ true → may 8 other k ≡ true → (decided rs k ≡ true → first_fit rs k ≡ Some made → IsOneOf other rs → other ≡ made) → other ≡ made
-chosen_at r rs k true g h made f other (inl e) p q more = e ∙ some_is r made (rw g at f)
+chosen_at r rs k true g h made f other (inl e) p q more = sym e ∙ some_is r made (rw g at f)
 chosen_at r rs k true g h made f other (inr one) p q more = absurd (none_of rs k (rw g at h) other one q)
-chosen_at r rs k false g h made f other (inl e) p q more = absurd (not_both (fits r k) (subst (λ (x : Row). fits x k ≡ true) e p) g)
+chosen_at r rs k false g h made f other (inl e) p q more = absurd (not_both (fits r k) (subst (λ (x : Row). fits x k ≡ true) (sym e) p) g)
 chosen_at r rs k false g h made f other (inr one) p q more = more (rw g at h) (rw g at f) one
 
 -- where the rules are decided, what begins one of them begins the first that fits
@@ -162,7 +163,7 @@ all_rows p (r ∷ rs) = cond (p r) (all_rows p rs) false
 
 pub all_of : (p : Row → Bool) (rs : List Row) (made : Row) → IsOneOf made rs → all_rows p rs ≡ true → p made ≡ true
 all_of p [] made one h = absurd one
-all_of p (r ∷ rs) made (inl e) h = subst (λ (x : Row). p x ≡ true) (sym e) (left_true (p r) (all_rows p rs) h)
+all_of p (r ∷ rs) made (inl e) h = subst (λ (x : Row). p x ≡ true) e (left_true (p r) (all_rows p rs) h)
 all_of p (r ∷ rs) made (inr one) h = all_of p rs made one (right_true (p r) (all_rows p rs) h)
 
 -- ---- every rule is decided, but for a primary at a parenthesis

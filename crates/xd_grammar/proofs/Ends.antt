@@ -8,7 +8,8 @@ use Rattle.xd_grammar.specs.declared.grammar.Sort.TheVariants as sorts
 use Rattle.xd_grammar.specs.declared.grammar.Symbol.TheVariants.{Token, Opening, Closed, Unless, Part}
 use Rattle.xd_grammar.specs.declared.grammar.Terminal.{Terminal}
 use Rattle.xd_grammar.specs.declared.grammar.Terminal.TheVariants as t
-use Rattle.xd_grammar.specs.Grammar.{Row, rules, IsOneOf, Extent, Whole, Front, MayEnd, Derives, end, token, opening, closed, unless, by}
+use Rattle.xd_doc.specs.Members.{IsOneOf}
+use Rattle.xd_grammar.specs.Grammar.{Row, rules, Extent, Entire, Partial, MayEnd, Derives, end, token, opening, closed, unless, by}
 use Rattle.xd_grammar.specs.TextErrors.{ends_text}
 use Rattle.xd_grammar.proofs.Derive.{view, all_rows, all_of, left_true, right_true}
 
@@ -85,12 +86,12 @@ plain_made : (part : Nonterminal) (made row : Row) → plain_part part ≡ true 
 plain_made part made row p one h = plain_seals made row (all_of plain (rules part) made one (all_plain part p)) ∙ sym (plain_part_seals part (is_nil row) (sealed row) p) ∙ h
 
 sealed_made : (part : Nonterminal) (made row : Row) → IsOneOf made (rules part) → sealed (Part part ∷ row) ≡ true → sealed (made ++ row) ≡ true
-sealed_made n.Definitions made [] (inl e) h = subst (λ (x : Row). sealed (x ++ []) ≡ true) (sym e) refl
-sealed_made n.Definitions made [] (inr (inl e)) h = subst (λ (x : Row). sealed (x ++ []) ≡ true) (sym e) refl
-sealed_made n.Definitions made [] (inr (inr (inl e))) h = subst (λ (x : Row). sealed (x ++ []) ≡ true) (sym e) refl
+sealed_made n.Definitions made [] (inl e) h = subst (λ (x : Row). sealed (x ++ []) ≡ true) e refl
+sealed_made n.Definitions made [] (inr (inl e)) h = subst (λ (x : Row). sealed (x ++ []) ≡ true) e refl
+sealed_made n.Definitions made [] (inr (inr (inl e))) h = subst (λ (x : Row). sealed (x ++ []) ≡ true) e refl
 sealed_made n.Definitions made [] (inr (inr (inr (none)))) h = absurd none
 sealed_made n.Definitions made (x ∷ row) one h = cc
-sealed_made n.TypeText made [] (inl e) h = subst (λ (x : Row). sealed (x ++ []) ≡ true) (sym e) refl
+sealed_made n.TypeText made [] (inl e) h = subst (λ (x : Row). sealed (x ++ []) ≡ true) e refl
 sealed_made n.TypeText made [] (inr (none)) h = absurd none
 sealed_made n.TypeText made (x ∷ row) one h = cc
 sealed_made part made row one h = plain_made part made row refl one h
@@ -110,7 +111,7 @@ at_last t.End nil rest e h = h
 at_last t.Broken nil rest e h = cc
 at_last k nil rest e h = cc
 
-nil_row : (e : Extent) (l d : ℕ) (row : Row) → is_nil row ≡ true → MayEnd Whole row
+nil_row : (e : Extent) (l d : ℕ) (row : Row) → is_nil row ≡ true → MayEnd Entire row
 nil_row e l d [] h = tt
 nil_row e l d (x ∷ row) h = cc
 
@@ -127,19 +128,19 @@ first_of_more [] k = (k, ([], refl))
 first_of_more (u ∷ us) k = (u, (us ++ k ∷ [], refl))
 
 -- a row with its token taken, where more tokens come
-more_sealed : (l d : ℕ) (k : Terminal) (row : Row) (ts us : List Terminal) (last : Terminal) → seal_token k (is_nil row) (sealed row) ≡ true → Derives Front l d row ts → ts ≡ us ++ last ∷ [] → sealed row ≡ true
+more_sealed : (l d : ℕ) (k : Terminal) (row : Row) (ts us : List Terminal) (last : Terminal) → seal_token k (is_nil row) (sealed row) ≡ true → Derives Partial l d row ts → ts ≡ us ++ last ∷ [] → sealed row ≡ true
 more_sealed l d k row ts us last s g e = elim (after_token k (is_nil row) (sealed row) s) [
-  | inl nil ↦ absurd (nil_dead Front l d row (first_of_more us last).0 (first_of_more us last).1.0 nil (subst (Derives Front l d row) (e ∙ (first_of_more us last).1.1) g))
+  | inl nil ↦ absurd (nil_dead Partial l d row (first_of_more us last).0 (first_of_more us last).1.0 nil (subst (Derives Partial l d row) (e ∙ (first_of_more us last).1.1) g))
   | inr rest ↦ rest
 ]
 
-whole_nil : (l d : ℕ) (row : Row) (ts : List Terminal) → MayEnd Whole row → ts ≡ [] → Derives Whole l d row ts
-whole_nil l d row ts h e = subst (Derives Whole l d row) (sym e) (end h)
+whole_nil : (l d : ℕ) (row : Row) (ts : List Terminal) → MayEnd Entire row → ts ≡ [] → Derives Entire l d row ts
+whole_nil l d row ts h e = subst (Derives Entire l d row) (sym e) (end h)
 
 -- a front with the last token of a text is the whole text
-pub ended : {l d : ℕ} {row : Row} {ts : List Terminal} → Derives Front l d row ts → (us : List Terminal) (last : Terminal) → ts ≡ us ++ last ∷ [] → ends_text last ≡ true → sealed row ≡ true → Derives Whole l d row ts
+pub ended : {l d : ℕ} {row : Row} {ts : List Terminal} → Derives Partial l d row ts → (us : List Terminal) (last : Terminal) → ts ≡ us ++ last ∷ [] → ends_text last ≡ true → sealed row ≡ true → Derives Entire l d row ts
 ended (end h) us last e q s = absurd (no_end us last e)
-ended {l = l} (token {depth = d} {k = k} {row = row} {ts = ts} g) [] last e q s = token (whole_nil l d row ts (nil_row Front l d row (at_last k (is_nil row) (sealed row) (subst (λ (x : Terminal). ends_text x ≡ true) (sym (same_first k last ts [] e)) q) s)) (same_rest k last ts [] e))
+ended {l = l} (token {depth = d} {k = k} {row = row} {ts = ts} g) [] last e q s = token (whole_nil l d row ts (nil_row Partial l d row (at_last k (is_nil row) (sealed row) (subst (λ (x : Terminal). ends_text x ≡ true) (sym (same_first k last ts [] e)) q) s)) (same_rest k last ts [] e))
 ended {l = l} (token {depth = d} {k = k} {row = row} {ts = ts} g) (u ∷ us) last e q s = token (ended g us last (same_rest k u ts (us ++ last ∷ []) e) q (more_sealed l d k row ts us last s g (same_rest k u ts (us ++ last ∷ []) e)))
 ended {l = l} (opening {depth = d} {k = k} {row = row} {ts = ts} h g) [] last e q s = absurd (false≢true (at_last k false (sealed row) (subst (λ (x : Terminal). ends_text x ≡ true) (sym (same_first k last ts [] e)) q) s))
 ended {l = l} (opening {depth = d} {k = k} {row = row} {ts = ts} h g) (u ∷ us) last e q s = opening h (ended g us last (same_rest k u ts (us ++ last ∷ []) e) q (after_opening k (sealed row) s))
@@ -148,11 +149,11 @@ ended (unless ne g) us last e q s = unless ne (ended g us last e q s)
 ended (by {part = part} made {row = row} one g) us last e q s = by made one (ended g us last e q (sealed_made part made row one s))
 
 -- a text, or a front of one, begins with each of its fronts
-pub front_of : {extent : Extent} {l d : ℕ} {row : Row} {ts : List Terminal} → Derives extent l d row ts → (us vs : List Terminal) → ts ≡ us ++ vs → Derives Front l d row us
+pub front_of : {extent : Extent} {l d : ℕ} {row : Row} {ts : List Terminal} → Derives extent l d row ts → (us vs : List Terminal) → ts ≡ us ++ vs → Derives Partial l d row us
 front_of g [] vs e = end tt
 front_of (end h) (u ∷ us) vs e = cc
-front_of {l = l} (token {depth = d} {k = k} {row = row} {ts = ts} g) (u ∷ us) vs e = subst (λ (x : Terminal). Derives Front l d (Token k ∷ row) (x ∷ us)) (same_first k u ts (us ++ vs) e) (token (front_of g us vs (same_rest k u ts (us ++ vs) e)))
-front_of {l = l} (opening {depth = d} {k = k} {row = row} {ts = ts} h g) (u ∷ us) vs e = subst (λ (x : Terminal). Derives Front l d (Opening k ∷ row) (x ∷ us)) (same_first k u ts (us ++ vs) e) (opening h (front_of g us vs (same_rest k u ts (us ++ vs) e)))
+front_of {l = l} (token {depth = d} {k = k} {row = row} {ts = ts} g) (u ∷ us) vs e = subst (λ (x : Terminal). Derives Partial l d (Token k ∷ row) (x ∷ us)) (same_first k u ts (us ++ vs) e) (token (front_of g us vs (same_rest k u ts (us ++ vs) e)))
+front_of {l = l} (opening {depth = d} {k = k} {row = row} {ts = ts} h g) (u ∷ us) vs e = subst (λ (x : Terminal). Derives Partial l d (Opening k ∷ row) (x ∷ us)) (same_first k u ts (us ++ vs) e) (opening h (front_of g us vs (same_rest k u ts (us ++ vs) e)))
 front_of (closed g) (u ∷ us) vs e = closed (front_of g (u ∷ us) vs e)
 front_of {l = l} (unless {depth = d} {j = j} {k = k} {row = row} {ts = ts} ne g) (u ∷ us) vs e = unless (λ q. ne (q ∙ sym (same_first k u ts (us ++ vs) e))) (front_of g (u ∷ us) vs e)
 front_of (by made one g) (u ∷ us) vs e = by made one (front_of g (u ∷ us) vs e)

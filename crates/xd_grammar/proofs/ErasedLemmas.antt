@@ -16,7 +16,8 @@ use Rattle.xd_grammar.specs.declared.grammar.Symbol.{Symbol}
 use Rattle.xd_grammar.specs.declared.grammar.Symbol.TheVariants.{Token, Opening, Closed, Unless, Part}
 use Rattle.xd_grammar.specs.declared.grammar.Terminal.{Terminal}
 use Rattle.xd_grammar.specs.declared.grammar.Terminal.TheVariants as t
-use Rattle.xd_grammar.specs.Grammar.{Row, rules, IsOneOf, Front, Derives, end, token, opening, closed, unless, by}
+use Rattle.xd_doc.specs.Members.{IsOneOf}
+use Rattle.xd_grammar.specs.Grammar.{Row, rules, Partial, Derives, end, token, opening, closed, unless, by}
 use Rattle.xd_grammar.specs.Fits.{same}
 use Rattle.xd_grammar.specs.Erasing.{production, productions, Starts, nothing, symbol, choice, opened, LongestMatchOnlyChooses}
 use Rattle.xd_grammar.proofs.Derive.{same-of, same-true, same-false, both_of, all_rows, all_of}
@@ -166,10 +167,10 @@ leaves_out more i e row ts l = becomes (Unless i ∷ []) (subst (λ (rs : List R
 
 absorbed : (more : Nonterminal) (i j : Terminal) (row made : Row) (ts : List Terminal) → Absorbs j row → IsOneOf made ((Token i ∷ again i) ∷ (Unless i ∷ []) ∷ []) → Loose (made ++ row) (j ∷ ts) → Loose (again j ++ row) ts
 absorbed more i j row made ts a (inl e) l =
-    let v : LooseView (Token i ∷ (again i ++ row)) j ts = loose_view (subst (λ (z : Row). Loose (z ++ row) (j ∷ ts)) e l) j ts refl in
+    let v : LooseView (Token i ∷ (again i ++ row)) j ts = loose_view (subst (λ (z : Row). Loose (z ++ row) (j ∷ ts)) (sym e) l) j ts refl in
     subst (λ (k : Terminal). Loose (again k ++ row) ts) v.0 v.1
 absorbed more i j row made ts a (inr (inl e)) l =
-    let v : LooseView (Unless i ∷ row) j ts = loose_view (subst (λ (z : Row). Loose (z ++ row) (j ∷ ts)) e l) j ts refl in
+    let v : LooseView (Unless i ∷ row) j ts = loose_view (subst (λ (z : Row). Loose (z ++ row) (j ∷ ts)) (sym e) l) j ts refl in
     a ts v
 absorbed more i j row made ts a (inr (inr none)) l = absurd none
 
@@ -431,10 +432,10 @@ deep_made Level made row d h deep = deep_between 0 0 made row d h deep
 
 -- ---- the rules of longest match kept
 abbrev Next : Terminal → List Terminal → ℕ → ℕ → Row → Type 0
-Next k ts limit depth row = FineAt k row → Deep row depth → depth + suc (length ts) ≤ limit → Derives Front limit depth row (k ∷ ts)
+Next k ts limit depth row = FineAt k row → Deep row depth → depth + suc (length ts) ≤ limit → Derives Partial limit depth row (k ∷ ts)
 
 abbrev Later : List Terminal → ℕ → Type 0
-Later ts limit = (depth : ℕ) (row : Row) → Fine row → Deep row depth → depth + length ts ≤ limit → Loose row ts → Derives Front limit depth row ts
+Later ts limit = (depth : ℕ) (row : Row) → Fine row → Deep row depth → depth + length ts ≤ limit → Loose row ts → Derives Partial limit depth row ts
 
 at_settled : (part : Nonterminal) (made row : Row) → IsOneOf made (rules part) → all_rows (is_right part) (rules part) ≡ true → Fine (Part part ∷ row) → Fine (made ++ row)
 at_settled part made row one h f = fine_row (guards part) (is_loose part) made row (all_of (is_right part) (rules part) made one h) f.0 f.1 f.2
@@ -448,8 +449,8 @@ at_left_out k ts limit later part i depth row e right is absorb true same_token 
     let q : i ≡ k = same-true i k same_token in
     let one : IsOneOf (Token i ∷ again i) (rules part) = subst (λ (rs : List Row). IsOneOf (Token i ∷ again i) rs) (sym e) (inl refl) in
     let more : Loose (again i ++ row) ts = absorb ts (subst (λ (x : Terminal). Loose row (x ∷ ts)) (sym q) l) in
-    let on : Derives Front limit depth (again i ++ row) ts = later depth (again i ++ row) (fine_row (guards part) (is_loose part) (Token i ∷ again i) row right f.0 f.1 f.2) (deep_at part (Token i ∷ again i) row depth one deep) (omega arith) more in
-    subst (λ (x : Terminal). Derives Front limit depth (Part part ∷ row) (x ∷ ts)) q (by (Token i ∷ again i) one (token on))
+    let on : Derives Partial limit depth (again i ++ row) ts = later depth (again i ++ row) (fine_row (guards part) (is_loose part) (Token i ∷ again i) row right f.0 f.1 f.2) (deep_at part (Token i ∷ again i) row depth one deep) (omega arith) more in
+    subst (λ (x : Terminal). Derives Partial limit depth (Part part ∷ row) (x ∷ ts)) q (by (Token i ∷ again i) one (token on))
 at_left_out k ts limit later part i depth row e right is absorb false other l next f deep big =
     let ne : i ≢ k = same-false i k other in
     let one : IsOneOf (Unless i ∷ []) (rules part) = subst (λ (rs : List Row). IsOneOf (Unless i ∷ []) rs) (sym e) (inr (inl refl)) in
@@ -457,11 +458,11 @@ at_left_out k ts limit later part i depth row e right is absorb false other l ne
 
 at_repeats : (k : Terminal) (ts : List Terminal) (limit : ℕ) → Later ts limit → (part : Nonterminal) (i : Terminal) (made : Row) (depth : ℕ) (row : Row) → Repeats part i → is_right part (Token i ∷ again i) ≡ true → is_loose part ≡ true → Absorbs i row → IsOneOf made ((Token i ∷ again i) ∷ (Unless i ∷ []) ∷ []) → IsOneOf made (rules part) → Loose (made ++ row) (k ∷ ts) → Next k ts limit depth (made ++ row) → Next k ts limit depth (Part part ∷ row)
 at_repeats k ts limit later part i made depth row e right is absorb (inl q) one l next f deep big =
-    let right_made : is_right part made ≡ true = subst (λ (r : Row). is_right part r ≡ true) (sym q) right in
+    let right_made : is_right part made ≡ true = subst (λ (r : Row). is_right part r ≡ true) q right in
     by made one (next (fine_at k (made ++ row) (fine_row (guards part) (is_loose part) made row right_made f.0 f.1 f.2)) (deep_at part made row depth one deep) big)
 at_repeats k ts limit later part i made depth row e right is absorb (inr (inl q)) one l next f deep big =
-    let v : LooseView (Unless i ∷ row) k ts = loose_view (subst (λ (r : Row). Loose (r ++ row) (k ∷ ts)) q l) k ts refl in
-    at_left_out k ts limit later part i depth row e right is absorb (same i k) refl v (subst (λ (r : Row). Next k ts limit depth (r ++ row)) q next) f deep big
+    let v : LooseView (Unless i ∷ row) k ts = loose_view (subst (λ (r : Row). Loose (r ++ row) (k ∷ ts)) (sym q) l) k ts refl in
+    at_left_out k ts limit later part i depth row e right is absorb (same i k) refl v (subst (λ (r : Row). Next k ts limit depth (r ++ row)) (sym q) next) f deep big
 at_repeats k ts limit later part i made depth row e right is absorb (inr (inr none)) one l next f deep big = absurd none
 
 at_part : (k : Terminal) (ts : List Terminal) (limit : ℕ) → Later ts limit → (part : Nonterminal) → Kind part → (made : Row) (depth : ℕ) (row : Row) → IsOneOf made (rules part) → Loose (made ++ row) (k ∷ ts) → Next k ts limit depth (made ++ row) → Next k ts limit depth (Part part ∷ row)
@@ -471,9 +472,9 @@ at_part k ts limit later part (repeats i e right is absorb) made depth row one l
 at_token : (k : Terminal) (ts : List Terminal) (limit : ℕ) → Later ts limit → {row : Row} {us : List Terminal} → Loose row us → us ≡ k ∷ ts → (depth : ℕ) → Next k ts limit depth row
 at_token k ts limit later done e depth f deep big = absurd (not_nil k ts e)
 at_token k ts limit later (word {k = j} {row = row} {ts = us} l) e depth f deep big =
-    subst (λ (x : Terminal). Derives Front limit depth (Token x ∷ row) (k ∷ ts)) (sym (same_first j k us ts e)) (token (later depth row f deep (omega arith) (subst (Loose row) (same_rest j k us ts e) l)))
+    subst (λ (x : Terminal). Derives Partial limit depth (Token x ∷ row) (k ∷ ts)) (sym (same_first j k us ts e)) (token (later depth row f deep (omega arith) (subst (Loose row) (same_rest j k us ts e) l)))
 at_token k ts limit later (opens {k = j} {row = row} {ts = us} l) e depth f deep big =
-    subst (λ (x : Terminal). Derives Front limit depth (Opening x ∷ row) (k ∷ ts)) (sym (same_first j k us ts e)) (opening (omega arith) (later (suc depth) row f deep (omega arith) (subst (Loose row) (same_rest j k us ts e) l)))
+    subst (λ (x : Terminal). Derives Partial limit depth (Opening x ∷ row) (k ∷ ts)) (sym (same_first j k us ts e)) (opening (omega arith) (later (suc depth) row f deep (omega arith) (subst (Loose row) (same_rest j k us ts e) l)))
 at_token k ts limit later (closes {row = row} l) e zero f deep big = absurd (deep k ts (subst (Loose row) e l))
 at_token k ts limit later (closes l) e (suc depth) f deep big = closed (at_token k ts limit later l e depth f deep (omega arith))
 at_token k ts limit later (passes {j = j} {row = row} l) e depth f deep big =
@@ -518,7 +519,7 @@ production_both (Part part ∷ a) b = ap (λ (r : Row). Part part ∷ r) (produc
 
 row_of : (made : Row) (rs : List Row) → IsOneOf made (map production rs) → (r : Row) × IsOneOf r rs × (made ≡ production r)
 row_of made [] one = absurd one
-row_of made (r ∷ rs) (inl e) = (r, inl refl, e)
+row_of made (r ∷ rs) (inl e) = (r, inl refl, sym e)
 row_of made (r ∷ rs) (inr one) = let o : (s : Row) × IsOneOf s rs × (made ≡ production s) = row_of made rs one in (o.0, inr o.1, o.2)
 
 production_of : (made : Row) (rs : List Row) → IsOneOf made rs → IsOneOf (production made) (map production rs)
@@ -558,7 +559,7 @@ starts_of (closes l) = starts_of l
 starts_of (passes l) = starts_of l
 starts_of (becomes {part = part} made {row = row} {ts = ts} one l) = choice (production made) (production_of made (rules part) one) (subst (λ (r : Row). Starts r ts) (production_both made row) (starts_of l))
 
-loosened : {limit depth : ℕ} {row : Row} {ts : List Terminal} → Derives Front limit depth row ts → Loose row ts
+loosened : {limit depth : ℕ} {row : Row} {ts : List Terminal} → Derives Partial limit depth row ts → Loose row ts
 loosened (end m) = done
 loosened (token d) = word (loosened d)
 loosened (opening h d) = opens (loosened d)

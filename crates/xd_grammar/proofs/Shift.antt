@@ -13,7 +13,8 @@ use Rattle.xd_grammar.specs.declared.machine.Reading.{Reading}
 use Rattle.xd_grammar.specs.declared.machine.Reading.TheVariants.{Plain, Opened}
 use Rattle.xd_grammar.specs.declared.machine.Step.{Step}
 use Rattle.xd_grammar.specs.declared.machine.Step.TheVariants.{Next, Syntax, TooDeep}
-use Rattle.xd_grammar.specs.Grammar.{Row, rules, IsOneOf, Extent, Front, Derives, end, token, opening, closed, unless, by}
+use Rattle.xd_doc.specs.Members.{IsOneOf}
+use Rattle.xd_grammar.specs.Grammar.{Row, rules, Extent, Partial, Derives, end, token, opening, closed, unless, by}
 use Rattle.xd_grammar.specs.Fits.{same, first_fit, work, cost, is_empty_too}
 use Rattle.xd_grammar.specs.Machine.{Reads, prim_group, group_of, entered, Turns, Shifts}
 use Rattle.xd_grammar.proofs.Derive.{View, view, same-true, same-false, fits-true, may-true, chosen_none, chosen_is, chosen_only, is_group, rules_decided, all_rows, all_of, left_true, right_true}
@@ -38,7 +39,7 @@ turns_shift d r k e s TooDeep f q a b = record {
   dead = λ x ts g. b.dead x ts (a.on x nesting_limit ts (omega arith) g);
   limit = b.limit;
   above = b.above;
-  alive = a.back Front b.limit [] b.above b.alive;
+  alive = a.back Partial b.limit [] b.above b.alive;
 }
 
 -- a token
@@ -62,7 +63,7 @@ opening_sinks d r j k f q m high = record {
   dead = λ e ts g. absurd (let low : d < nesting_limit = (view g k ts refl).1 in omega arith);
   limit = suc d;
   above = omega arith;
-  alive = subst (λ (x : Terminal). Derives Front (suc d) d (Opening j ∷ r) (x ∷ [])) (same-true j k m) (opening (omega arith) (end tt));
+  alive = subst (λ (x : Terminal). Derives Partial (suc d) d (Opening j ∷ r) (x ∷ [])) (same-true j k m) (opening (omega arith) (end tt));
 }
 
 pub opening_stops : (d : ℕ) (r : Row) (j k : Terminal) (f : ℕ) (q : Row) → same j k ≡ false → Shifts d (Opening j ∷ r) k Syntax f q
@@ -180,11 +181,11 @@ class_turns d r =
 
 group_rows : (s : Sort) (e : Extent) (l d : ℕ) (r : Row) (ts : List Terminal) → nesting_limit ≤ l → Derives e l d (Part (n.Prim s) ∷ r) (t.ParenL ∷ ts) → (d < l) × Reads (Opened s) e l (suc d) r ts
 group_rows s e l d r ts h g = elim ((view g t.ParenL ts refl).1) [
-  | inl q ↦ (let w : View e l d (Token t.Word ∷ r) t.ParenL ts = view (subst (λ (x : Row). Derives e l d (x ++ r) (t.ParenL ∷ ts)) q (view g t.ParenL ts refl).2) t.ParenL ts refl in absurd (word_paren w.0))
-  | inr (inl q) ↦ (let w : View e l d (Opening t.ParenL ∷ Part (n.Group s) ∷ r) t.ParenL ts = view (subst (λ (x : Row). Derives e l d (x ++ r) (t.ParenL ∷ ts)) q (view g t.ParenL ts refl).2) t.ParenL ts refl in (w.1, inl w.2))
-  | inr (inr (inl q)) ↦ (let w : View e l d (Token t.Text ∷ r) t.ParenL ts = view (subst (λ (x : Row). Derives e l d (x ++ r) (t.ParenL ∷ ts)) q (view g t.ParenL ts refl).2) t.ParenL ts refl in absurd (text_paren w.0))
-  | inr (inr (inr (inl q))) ↦ (let w : View e l d (Token t.Caret ∷ Part (n.Excepted s) ∷ r) t.ParenL ts = view (subst (λ (x : Row). Derives e l d (x ++ r) (t.ParenL ∷ ts)) q (view g t.ParenL ts refl).2) t.ParenL ts refl in absurd (caret_paren w.0))
-  | inr (inr (inr (inr (inl q)))) ↦ (let w : View e l d (Opening t.ParenL ∷ Part n.AnyWord ∷ Part n.MoreNames ∷ Token t.ParenR ∷ Closed ∷ Opening t.BracketL ∷ Part (n.Content s) ∷ r) t.ParenL ts = view ((class_turns d (Part (n.Content s) ∷ r)).on e l ts h (subst (λ (x : Row). Derives e l d (x ++ r) (t.ParenL ∷ ts)) q (view g t.ParenL ts refl).2)) t.ParenL ts refl in (w.1, inr w.2))
+  | inl q ↦ (let w : View e l d (Token t.Word ∷ r) t.ParenL ts = view (subst (λ (x : Row). Derives e l d (x ++ r) (t.ParenL ∷ ts)) (sym q) (view g t.ParenL ts refl).2) t.ParenL ts refl in absurd (word_paren w.0))
+  | inr (inl q) ↦ (let w : View e l d (Opening t.ParenL ∷ Part (n.Group s) ∷ r) t.ParenL ts = view (subst (λ (x : Row). Derives e l d (x ++ r) (t.ParenL ∷ ts)) (sym q) (view g t.ParenL ts refl).2) t.ParenL ts refl in (w.1, inl w.2))
+  | inr (inr (inl q)) ↦ (let w : View e l d (Token t.Text ∷ r) t.ParenL ts = view (subst (λ (x : Row). Derives e l d (x ++ r) (t.ParenL ∷ ts)) (sym q) (view g t.ParenL ts refl).2) t.ParenL ts refl in absurd (text_paren w.0))
+  | inr (inr (inr (inl q))) ↦ (let w : View e l d (Token t.Caret ∷ Part (n.Excepted s) ∷ r) t.ParenL ts = view (subst (λ (x : Row). Derives e l d (x ++ r) (t.ParenL ∷ ts)) (sym q) (view g t.ParenL ts refl).2) t.ParenL ts refl in absurd (caret_paren w.0))
+  | inr (inr (inr (inr (inl q)))) ↦ (let w : View e l d (Opening t.ParenL ∷ Part n.AnyWord ∷ Part n.MoreNames ∷ Token t.ParenR ∷ Closed ∷ Opening t.BracketL ∷ Part (n.Content s) ∷ r) t.ParenL ts = view ((class_turns d (Part (n.Content s) ∷ r)).on e l ts h (subst (λ (x : Row). Derives e l d (x ++ r) (t.ParenL ∷ ts)) (sym q) (view g t.ParenL ts refl).2)) t.ParenL ts refl in (w.1, inr w.2))
   | inr (inr (inr (inr (inr none)))) ↦ absurd none
 ]
 

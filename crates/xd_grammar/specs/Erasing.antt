@@ -5,7 +5,8 @@ use Rattle.xd_grammar.specs.declared.grammar.Nonterminal.{Nonterminal}
 use Rattle.xd_grammar.specs.declared.grammar.Symbol.TheVariants.{Token, Opening, Closed, Unless, Part}
 use Rattle.xd_grammar.specs.declared.grammar.Terminal.{Terminal}
 use Rattle.xd_grammar.specs.declared.grammar.Nonterminal.TheVariants as n
-use Rattle.xd_grammar.specs.Grammar.{Row, rules, IsOneOf, Front, Derives}
+use Rattle.xd_doc.specs.Members.{IsOneOf}
+use Rattle.xd_grammar.specs.Grammar.{Row, rules, Partial, Derives}
 
 abbrev pub production : Row → Row
 production [] = []
@@ -34,4 +35,4 @@ opened part = 0
 -- begin a symbol as it is. Only where a limit is set do they count, since they say where a match
 -- ends and so how many levels are open.
 abbrev pub LongestMatchOnlyChooses : Type 0
-LongestMatchOnlyChooses = (part : Nonterminal) (ts : List Terminal) → ((limit : ℕ) × Derives Front limit (opened part) (Part part ∷ []) ts) ↔ Starts (Part part ∷ []) ts
+LongestMatchOnlyChooses = (part : Nonterminal) (ts : List Terminal) → ((limit : ℕ) × Derives Partial limit (opened part) (Part part ∷ []) ts) ↔ Starts (Part part ∷ []) ts

@@ -1,5 +1,6 @@
 -- The grammar of programs and types, and what its rows of symbols spell.
-use Rattle.std.specs.Prelude.{◌≡◌, ◌≢◌, ◌<◌, ◌++◌, ◌⊎◌, ℕ, suc, List, [], ◌∷◌}
+use Rattle.std.specs.Prelude.{◌≡◌, ◌≢◌, ◌<◌, ◌++◌, ℕ, suc, List, [], ◌∷◌}
+use Rattle.xd_doc.specs.Members.{IsOneOf}
 use Rattle.xd_grammar.specs.declared.grammar.Nonterminal.{Nonterminal}
 use Rattle.xd_grammar.specs.declared.grammar.Nonterminal.TheVariants as n
 use Rattle.xd_grammar.specs.declared.grammar.Sort.TheVariants as sorts
@@ -8,6 +9,7 @@ use Rattle.xd_grammar.specs.declared.grammar.Symbol.TheVariants.{Token, Opening,
 use Rattle.xd_grammar.specs.declared.grammar.Terminal.{Terminal}
 use Rattle.xd_grammar.specs.declared.grammar.Terminal.TheVariants as t
 
+-- a row of symbols, which are spelled one after the other
 abbrev pub Row : Type 0
 Row = List Symbol
 
@@ -17,16 +19,24 @@ Row = List Symbol
 -- doesn't come next: a repetition ends, and an option is left out, only there, so each takes as
 -- many tokens as it can, and parentheses with a `[` after them are the list of a class. After a `^`
 -- stand labels or texts, one or a list of them.
+--
+-- Of `(a|b)[]`, the tokens up to the `)` are the front of a group and of a class's list. The `[` is
+-- refused by the group, which ends with `Unless t.BracketL`, and opens the content of the class. In
+-- `a,b` the sequence can't end at `a`, since `MoreParts` is left out by `Unless t.Comma` alone. In
+-- `a[b[]]` the two labels open a level each, so the second stands where two are open, and the
+-- `Closed` after each `]` closes one again; `Closed` and `Unless` take no token.
 abbrev pub rules : Nonterminal → List Row
 -- definitions  = { "type" word "=" alternative
 --              | "fun" word parameter { parameter } ":" alternative "=" expression } End
 rules n.Definitions =
     (Token t.Type ∷ Token t.Word ∷ Token t.Equals ∷ Part (n.Alternative sorts.Type) ∷ Part n.Definitions ∷ [])
-    ∷ (Token t.Fun ∷ Token t.Word ∷ Part n.Param ∷ Part n.MoreParams ∷ Token t.Colon ∷ Part (n.Alternative sorts.Type) ∷ Token t.Equals ∷ Part n.Expr ∷ Part n.Definitions ∷ [])
+    ∷ (Token t.Fun ∷ Token t.Word ∷ Part n.Param ∷ Part n.MoreParams
+    ∷ Token t.Colon ∷ Part (n.Alternative sorts.Type) ∷ Token t.Equals ∷ Part n.Expr ∷ Part n.Definitions ∷ [])
     ∷ (Token t.End ∷ []) ∷ []
 -- parameter    = "(" "val" word "as" alternative ")"
 rules n.Param =
-    (Opening t.ParenL ∷ Token t.Val ∷ Token t.Word ∷ Token t.As ∷ Part (n.Alternative sorts.Type) ∷ Token t.ParenR ∷ Closed ∷ []) ∷ []
+    (Opening t.ParenL ∷ Token t.Val ∷ Token t.Word ∷ Token t.As
+    ∷ Part (n.Alternative sorts.Type) ∷ Token t.ParenR ∷ Closed ∷ []) ∷ []
 -- more parameters = { parameter }
 rules n.MoreParams =
     (Unless t.ParenL ∷ [])
@@ -65,7 +75,8 @@ rules (n.Excepted s) =
 -- excepted list = text { "|" text } ")" | any word { "|" any word } ")" "[" content
 rules (n.ExceptedList s) =
     (Token t.Text ∷ Part n.MoreTexts ∷ Token t.ParenR ∷ Closed ∷ [])
-    ∷ (Part n.AnyWord ∷ Part n.MoreNames ∷ Token t.ParenR ∷ Closed ∷ Opening t.BracketL ∷ Part (n.Content s) ∷ []) ∷ []
+    ∷ (Part n.AnyWord ∷ Part n.MoreNames ∷ Token t.ParenR ∷ Closed
+    ∷ Opening t.BracketL ∷ Part (n.Content s) ∷ []) ∷ []
 -- group        = ")" | alternative ")"; no "[" follows
 rules (n.Group s) =
     (Token t.ParenR ∷ Closed ∷ Unless t.BracketL ∷ [])
@@ -147,36 +158,36 @@ rules n.MoreClauses =
     (Token t.Bar ∷ Part n.Clause ∷ Part n.MoreClauses ∷ [])
     ∷ (Unless t.Bar ∷ []) ∷ []
 
--- the row is one of these
-abbrev pub IsOneOf : Row → List Row → Type 0
-IsOneOf row [] = ⊥
-IsOneOf row (r ∷ rs) = (row ≡ r) ⊎ IsOneOf row rs
-
 -- whether tokens are to spell a row to its end, or may break off anywhere
 pub data Extent : Type 0 where
-  Whole : Extent
-  Front : Extent
+  Entire : Extent
+  Partial : Extent
 
 -- what may be left of a row after the last token
 abbrev pub MayEnd : Extent → Row → Type 0
-MayEnd Whole [] = Unit {0}
-MayEnd Whole (symbol ∷ row) = ⊥
-MayEnd Front row = Unit {0}
+MayEnd Entire [] = Unit {0}
+MayEnd Entire (symbol ∷ row) = ⊥
+MayEnd Partial row = Unit {0}
 
 -- Where so many levels of nesting are open, and at most `limit` may be, the tokens spell the row,
 -- or a front of it.
 pub data Derives (extent : Extent) (limit : ℕ) : ℕ → Row → List Terminal → Type 0 where
   end : {depth : ℕ} {row : Row} → MayEnd extent row → Derives extent limit depth row []
-  token : {depth : ℕ} {k : Terminal} {row : Row} {ts : List Terminal} → Derives extent limit depth row ts → Derives extent limit depth (Token k ∷ row) (k ∷ ts)
-  opening : {depth : ℕ} {k : Terminal} {row : Row} {ts : List Terminal} → depth < limit → Derives extent limit (suc depth) row ts → Derives extent limit depth (Opening k ∷ row) (k ∷ ts)
-  closed : {depth : ℕ} {row : Row} {ts : List Terminal} → Derives extent limit depth row ts → Derives extent limit (suc depth) (Closed ∷ row) ts
-  unless : {depth : ℕ} {j k : Terminal} {row : Row} {ts : List Terminal} → j ≢ k → Derives extent limit depth row (k ∷ ts) → Derives extent limit depth (Unless j ∷ row) (k ∷ ts)
-  by : {depth : ℕ} {part : Nonterminal} (made : Row) {row : Row} {ts : List Terminal} → IsOneOf made (rules part) → Derives extent limit depth (made ++ row) ts → Derives extent limit depth (Part part ∷ row) ts
+  token : {depth : ℕ} {k : Terminal} {row : Row} {ts : List Terminal} →
+      Derives extent limit depth row ts → Derives extent limit depth (Token k ∷ row) (k ∷ ts)
+  opening : {depth : ℕ} {k : Terminal} {row : Row} {ts : List Terminal} → depth < limit →
+      Derives extent limit (suc depth) row ts → Derives extent limit depth (Opening k ∷ row) (k ∷ ts)
+  closed : {depth : ℕ} {row : Row} {ts : List Terminal} →
+      Derives extent limit depth row ts → Derives extent limit (suc depth) (Closed ∷ row) ts
+  unless : {depth : ℕ} {j k : Terminal} {row : Row} {ts : List Terminal} → j ≢ k →
+      Derives extent limit depth row (k ∷ ts) → Derives extent limit depth (Unless j ∷ row) (k ∷ ts)
+  by : {depth : ℕ} {part : Nonterminal} (made : Row) {row : Row} {ts : List Terminal} → IsOneOf made (rules part) →
+      Derives extent limit depth (made ++ row) ts → Derives extent limit depth (Part part ∷ row) ts
 
 -- the tokens are a whole text of this nonterminal, which ends with `End`
-abbrev pub Spells : ℕ → Nonterminal → List Terminal → Type 0
-Spells limit part ts = Derives Whole limit 0 (Part part ∷ []) ts
+abbrev pub SpellsNonterminal : ℕ → Nonterminal → List Terminal → Type 0
+SpellsNonterminal limit part ts = Derives Entire limit 0 (Part part ∷ []) ts
 
 -- the tokens are the front of a text of this nonterminal
-abbrev pub Begins : ℕ → Nonterminal → List Terminal → Type 0
-Begins limit part ts = Derives Front limit 0 (Part part ∷ []) ts
+abbrev pub BeginsNonterminal : ℕ → Nonterminal → List Terminal → Type 0
+BeginsNonterminal limit part ts = Derives Partial limit 0 (Part part ∷ []) ts

@@ -14,7 +14,7 @@ use Rattle.xd_grammar.specs.declared.machine.Course.{Course}
 use Rattle.xd_grammar.specs.declared.machine.Course.TheVariants.{Both, Main, Listed}
 use Rattle.xd_grammar.specs.declared.machine.Step.{Step}
 use Rattle.xd_grammar.specs.declared.machine.Step.TheVariants.{Next, Syntax, TooDeep}
-use Rattle.xd_grammar.specs.Grammar.{Row, Extent, Front, Derives}
+use Rattle.xd_grammar.specs.Grammar.{Row, Extent, Partial, Derives}
 use Rattle.xd_grammar.specs.Fits.{same, work}
 use Rattle.xd_syntax.specs.Shallow.{nesting_limit}
 
@@ -94,7 +94,7 @@ pub record Sinks (before : Reading) (depth : ℕ) (row : Row) (k : Terminal) : T
   pub dead : (extent : Extent) (ts : List Terminal) → Reads before extent nesting_limit depth row (k ∷ ts) → ⊥
   pub limit : ℕ
   pub above : nesting_limit ≤ limit
-  pub alive : Reads before Front limit depth row (k ∷ [])
+  pub alive : Reads before Partial limit depth row (k ∷ [])
 
 abbrev pub Advances : Reading → ℕ → Row → Terminal → Step → ℕ → Row → Type 0
 Advances before depth row k (Next after) new rest = Passes before depth row k after new rest

@@ -2,9 +2,9 @@
 
 ghost use Rattle.std.specs.Prelude.{◌≡◌, ◌<◌, length, true, IfOk, IfErr, MatchOption};
 ghost use Rattle.xd_lex.specs.Tokens.{tokens_of};
-ghost use Rattle.xd_grammar.specs.Grammar.{Begins};
+ghost use Rattle.xd_grammar.specs.Grammar.{BeginsNonterminal};
 ghost use Rattle.xd_grammar.specs.Started.{IsStart};
-ghost use Rattle.xd_grammar.specs.Text.{IsLexemeFault, SpellsText, terminals_of};
+ghost use Rattle.xd_grammar.specs.Text.{IsLexemeFault, SpellsText, terminals_at};
 ghost use Rattle.xd_grammar.specs.TextErrors.{IsTextError, is_text};
 ghost use Rattle.xd_syntax.specs.Shallow.{nesting_limit};
 
@@ -34,7 +34,7 @@ fn first_fault(
     mut lexer: Lexer<'_>,
 ) -> Result<Option<TextFault>, NoMemory>
     requires { 0 < length lexer }
-    ensures { IfOk result (λ found. MatchOption found (Begins nesting_limit part (terminals_of lexer.entry)) (IsLexemeFault part lexer.entry)) }
+    ensures { IfOk result (λ found. MatchOption found (BeginsNonterminal nesting_limit part (terminals_at lexer.entry)) (IsLexemeFault part lexer.entry)) }
 {
     let mut machine = start(alloc, part)?;
     'tokens: loop {

@@ -1,7 +1,7 @@
 //! What tokens are to the grammar, and what may be wrong with a text.
 
 ghost use Rattle.std.specs.Prelude.{◌≡◌};
-ghost use Rattle.xd_grammar.specs.Text.{word_terminal, terminal_of};
+ghost use Rattle.xd_grammar.specs.Text.{word_terminal, kind_terminal};
 ghost use Rattle.xd_grammar.specs.declared.text.TextError.TheVariants as errors;
 
 use crate::grammar::Terminal;
@@ -60,7 +60,7 @@ fn word_terminal(word: &str) -> Terminal
 
 /// What a token is to the grammar.
 pub fn terminal(kind: Kind, text: &str) -> Terminal
-    ensures { result ≡ terminal_of kind text.now }
+    ensures { result ≡ kind_terminal kind text.now }
 {
     match kind {
         Kind::Word => word_terminal(text),

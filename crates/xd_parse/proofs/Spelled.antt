@@ -5,8 +5,9 @@ use Rattle.xd_lex.specs.Tokens.{Lexeme}
 use Rattle.xd_grammar.specs.declared.grammar.Nonterminal.{Nonterminal}
 use Rattle.xd_grammar.specs.declared.grammar.Symbol.TheVariants.{Token, Opening, Closed, Unless, Part}
 use Rattle.xd_grammar.specs.declared.grammar.Terminal.{Terminal}
-use Rattle.xd_grammar.specs.Grammar.{Row, rules, IsOneOf, Whole, MayEnd, Derives, end, token, opening, closed, unless, by, Spells}
-use Rattle.xd_grammar.specs.Text.{terminals_of, terminal_at}
+use Rattle.xd_doc.specs.Members.{IsOneOf}
+use Rattle.xd_grammar.specs.Grammar.{Row, rules, Entire, MayEnd, Derives, end, token, opening, closed, unless, by, SpellsNonterminal}
+use Rattle.xd_grammar.specs.Text.{terminals_at, terminal_at}
 use Rattle.xd_parse_trees.specs.Values.{Value, token_value, value_of}
 use Rattle.xd_parse_trees.specs.Means.{Means, MeansAll, ends, a_token, an_opening, a_closing, a_bar, a_part}
 use Rattle.xd_parse_trees.specs.Reading.{Reads}
@@ -97,27 +98,27 @@ AllMeans limit d row ls = (e : ℕ) × (vs : List Value) × MeansAt limit d row 
 cons_nil : (k : Terminal) (ts : List Terminal) → k ∷ ts ≡ [] → ⊥
 cons_nil k ts e = cc
 
-at_end : (limit d : ℕ) (row : Row) → MayEnd Whole row → (ls : List Lexeme) → [] ≡ terminals_of ls → AllMeans limit d row ls
+at_end : (limit d : ℕ) (row : Row) → MayEnd Entire row → (ls : List Lexeme) → [] ≡ terminals_at ls → AllMeans limit d row ls
 at_end limit d [] m [] e = (d, [], ends_at)
-at_end limit d [] m (l ∷ ls) e = absurd (not_nil (terminal_at l) (terminals_of ls) e)
+at_end limit d [] m (l ∷ ls) e = absurd (not_nil (terminal_at l) (terminals_at ls) e)
 at_end limit d (s ∷ row) m ls e = absurd m
 
-by_token : (limit d : ℕ) (k : Terminal) (row : Row) (ts : List Terminal) (ls : List Lexeme) → k ∷ ts ≡ terminals_of ls → ((later : List Lexeme) → ts ≡ terminals_of later → AllMeans limit d row later) → AllMeans limit d (Token k ∷ row) ls
+by_token : (limit d : ℕ) (k : Terminal) (row : Row) (ts : List Terminal) (ls : List Lexeme) → k ∷ ts ≡ terminals_at ls → ((later : List Lexeme) → ts ≡ terminals_at later → AllMeans limit d row later) → AllMeans limit d (Token k ∷ row) ls
 by_token limit d k row ts [] q more = absurd (cons_nil k ts q)
-by_token limit d k row ts (l ∷ ls) q more = let s = more ls (same_rest k (terminal_at l) ts (terminals_of ls) q) in (s.0, token_value l ∷ s.1, token_is limit d s.0 k l row (l ∷ ls) ls [] s.1 refl (sym (same_first k (terminal_at l) ts (terminals_of ls) q)) s.2)
+by_token limit d k row ts (l ∷ ls) q more = let s = more ls (same_rest k (terminal_at l) ts (terminals_at ls) q) in (s.0, token_value l ∷ s.1, token_is limit d s.0 k l row (l ∷ ls) ls [] s.1 refl (sym (same_first k (terminal_at l) ts (terminals_at ls) q)) s.2)
 
-by_opening : (limit d : ℕ) (k : Terminal) (row : Row) (ts : List Terminal) (ls : List Lexeme) → d < limit → k ∷ ts ≡ terminals_of ls → ((later : List Lexeme) → ts ≡ terminals_of later → AllMeans limit (suc d) row later) → AllMeans limit d (Opening k ∷ row) ls
+by_opening : (limit d : ℕ) (k : Terminal) (row : Row) (ts : List Terminal) (ls : List Lexeme) → d < limit → k ∷ ts ≡ terminals_at ls → ((later : List Lexeme) → ts ≡ terminals_at later → AllMeans limit (suc d) row later) → AllMeans limit d (Opening k ∷ row) ls
 by_opening limit d k row ts [] h q more = absurd (cons_nil k ts q)
-by_opening limit d k row ts (l ∷ ls) h q more = let s = more ls (same_rest k (terminal_at l) ts (terminals_of ls) q) in (s.0, token_value l ∷ s.1, opening_is limit d s.0 k l row (l ∷ ls) ls [] s.1 refl (sym (same_first k (terminal_at l) ts (terminals_of ls) q)) h s.2)
+by_opening limit d k row ts (l ∷ ls) h q more = let s = more ls (same_rest k (terminal_at l) ts (terminals_at ls) q) in (s.0, token_value l ∷ s.1, opening_is limit d s.0 k l row (l ∷ ls) ls [] s.1 refl (sym (same_first k (terminal_at l) ts (terminals_at ls) q)) h s.2)
 
-by_bar : (limit d : ℕ) (j k : Terminal) (row : Row) (ts : List Terminal) (ls : List Lexeme) → j ≢ k → k ∷ ts ≡ terminals_of ls → AllMeans limit d row ls → AllMeans limit d (Unless j ∷ row) ls
+by_bar : (limit d : ℕ) (j k : Terminal) (row : Row) (ts : List Terminal) (ls : List Lexeme) → j ≢ k → k ∷ ts ≡ terminals_at ls → AllMeans limit d row ls → AllMeans limit d (Unless j ∷ row) ls
 by_bar limit d j k row ts [] ne q s = absurd (cons_nil k ts q)
-by_bar limit d j k row ts (l ∷ ls) ne q s = (s.0, s.1, bar_is limit d s.0 j l row (l ∷ ls) ls [] s.1 refl (subst (λ (x : Terminal). j ≢ x) (same_first k (terminal_at l) ts (terminals_of ls) q) ne) s.2)
+by_bar limit d j k row ts (l ∷ ls) ne q s = (s.0, s.1, bar_is limit d s.0 j l row (l ∷ ls) ls [] s.1 refl (subst (λ (x : Terminal). j ≢ x) (same_first k (terminal_at l) ts (terminals_at ls) q) ne) s.2)
 
 by_part : (limit d : ℕ) (part : Nonterminal) (made row : Row) (ls : List Lexeme) → IsOneOf made (rules part) → AllMeans limit d (made ++ row) ls → AllMeans limit d (Part part ∷ row) ls
 by_part limit d part made row ls one s = let c = cut limit d s.0 made row ls [] s.1 s.2 in (s.0, value_of part c.firsts ∷ c.others, part_at made one c.one c.two)
 
-means_of : {limit depth : ℕ} {row : Row} {ts : List Terminal} → Derives Whole limit depth row ts → (ls : List Lexeme) → ts ≡ terminals_of ls → AllMeans limit depth row ls
+means_of : {limit depth : ℕ} {row : Row} {ts : List Terminal} → Derives Entire limit depth row ts → (ls : List Lexeme) → ts ≡ terminals_at ls → AllMeans limit depth row ls
 means_of {limit = limit} (end {depth = d} {row = row} m) ls q = at_end limit d row m ls q
 means_of {limit = limit} (token {depth = d} {k = k} {row = row} {ts = ts} m) ls q = by_token limit d k row ts ls q (λ later f. means_of m later f)
 means_of {limit = limit} (opening {depth = d} {k = k} {row = row} {ts = ts} h m) ls q = by_opening limit d k row ts ls h q (λ later f. means_of m later f)
@@ -141,18 +142,18 @@ one_of limit part ls s =
     (value_of part v.3, record { made = v.0; level = v.1; parts = v.3; one = v.5; within = subst (λ (x : List Lexeme). MeansAt limit 0 v.0 ls x v.1 v.3) z.1 v.6; is = refl })
 
 -- tokens that spell a nonterminal stand for something
-pub spelled_within : (limit : ℕ) (part : Nonterminal) (ls : List Lexeme) → Spells limit part (terminals_of ls) → (v : Value) × MeansWithin limit part ls v
+pub spelled_within : (limit : ℕ) (part : Nonterminal) (ls : List Lexeme) → SpellsNonterminal limit part (terminals_at ls) → (v : Value) × MeansWithin limit part ls v
 spelled_within limit part ls s = one_of limit part ls (means_of s ls refl)
 
 all_of : (limit : ℕ) (part : Nonterminal) (ls : List Lexeme) (v : Value) → MeansWithin limit part ls v → MeansAll part ls v
 all_of limit part ls v m = subst (λ (w : Value). MeansAll part ls w) (sym m.is) (a_part m.made m.one (levels_aside m.within) ends)
 
 -- what was read is what they stand for, and within the limit
-pub read_within : (limit : ℕ) (part : Nonterminal) (ls to : List Lexeme) (v : Value) → Spells limit part (terminals_of ls) → Reads part ls to v → MeansWithin limit part ls v
+pub read_within : (limit : ℕ) (part : Nonterminal) (ls to : List Lexeme) (v : Value) → SpellsNonterminal limit part (terminals_at ls) → Reads part ls to v → MeansWithin limit part ls v
 read_within limit part ls to v s r =
     let m = spelled_within limit part ls s in
     let q : ([] ≡ to) × (m.0 ≡ v) = r [] m.0 (all_of limit part ls m.0 m.1) in
     subst (λ (w : Value). MeansWithin limit part ls w) q.1 m.1
 
-pub read_all : (limit : ℕ) (part : Nonterminal) (ls to : List Lexeme) (v : Value) → Spells limit part (terminals_of ls) → Reads part ls to v → MeansAll part ls v
+pub read_all : (limit : ℕ) (part : Nonterminal) (ls to : List Lexeme) (v : Value) → SpellsNonterminal limit part (terminals_at ls) → Reads part ls to v → MeansAll part ls v
 read_all limit part ls to v s r = all_of limit part ls v (read_within limit part ls to v s r)

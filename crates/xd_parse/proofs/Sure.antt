@@ -13,7 +13,8 @@ use Rattle.xd_grammar.specs.declared.machine.Reading.{Reading}
 use Rattle.xd_grammar.specs.declared.machine.Reading.TheVariants.{Opened}
 use Rattle.xd_grammar.specs.declared.machine.Course.{Course}
 use Rattle.xd_grammar.specs.declared.machine.Course.TheVariants.{Both, Main, Listed}
-use Rattle.xd_grammar.specs.Grammar.{Row, rules, IsOneOf}
+use Rattle.xd_doc.specs.Members.{IsOneOf}
+use Rattle.xd_grammar.specs.Grammar.{Row, rules}
 use Rattle.xd_grammar.specs.Fits.{same, fits, first_fit}
 use Rattle.xd_grammar.specs.Machine.{course}
 use Rattle.xd_parse_trees.specs.Values.{Value, a_tree, definitions, value_of}
@@ -51,19 +52,19 @@ no_token k row l ls rest ws made h e q m =
     let f : fits (Token k ∷ row) t.ParenL ≡ true = means_fits (Token k ∷ row) l ls rest ws t.ParenL e (subst (λ (r : Row). Means r (l ∷ ls) rest ws) q m) in cc
 
 group_alive : (sort : Sort) (l : Lexeme) (ls rest : List Lexeme) (ws : List Value) (made : Row) → terminal_at l ≡ t.ParenL → SpellNo (element_row sort) (l ∷ ls) → IsOneOf made (prim_rows sort) → Means made (l ∷ ls) rest ws → made ≡ group_row sort
-group_alive sort l ls rest ws made e dead (inl q) m = absurd (no_token t.Word _ l ls rest ws made refl e q m)
-group_alive sort l ls rest ws made e dead (inr (inl q)) m = q
-group_alive sort l ls rest ws made e dead (inr (inr (inl q))) m = absurd (no_token t.Text _ l ls rest ws made refl e q m)
-group_alive sort l ls rest ws made e dead (inr (inr (inr (inl q)))) m = absurd (no_token t.Caret _ l ls rest ws made refl e q m)
-group_alive sort l ls rest ws made e dead (inr (inr (inr (inr (inl q))))) m = absurd (dead rest ws (subst (λ (r : Row). Means r (l ∷ ls) rest ws) q m))
+group_alive sort l ls rest ws made e dead (inl q) m = absurd (no_token t.Word _ l ls rest ws made refl e (sym q) m)
+group_alive sort l ls rest ws made e dead (inr (inl q)) m = sym q
+group_alive sort l ls rest ws made e dead (inr (inr (inl q))) m = absurd (no_token t.Text _ l ls rest ws made refl e (sym q) m)
+group_alive sort l ls rest ws made e dead (inr (inr (inr (inl q)))) m = absurd (no_token t.Caret _ l ls rest ws made refl e (sym q) m)
+group_alive sort l ls rest ws made e dead (inr (inr (inr (inr (inl q))))) m = absurd (dead rest ws (subst (λ (r : Row). Means r (l ∷ ls) rest ws) (sym q) m))
 group_alive sort l ls rest ws made e dead (inr (inr (inr (inr (inr h))))) m = absurd h
 
 element_alive : (sort : Sort) (l : Lexeme) (ls rest : List Lexeme) (ws : List Value) (made : Row) → terminal_at l ≡ t.ParenL → SpellNo (group_row sort) (l ∷ ls) → IsOneOf made (prim_rows sort) → Means made (l ∷ ls) rest ws → made ≡ element_row sort
-element_alive sort l ls rest ws made e dead (inl q) m = absurd (no_token t.Word _ l ls rest ws made refl e q m)
-element_alive sort l ls rest ws made e dead (inr (inl q)) m = absurd (dead rest ws (subst (λ (r : Row). Means r (l ∷ ls) rest ws) q m))
-element_alive sort l ls rest ws made e dead (inr (inr (inl q))) m = absurd (no_token t.Text _ l ls rest ws made refl e q m)
-element_alive sort l ls rest ws made e dead (inr (inr (inr (inl q)))) m = absurd (no_token t.Caret _ l ls rest ws made refl e q m)
-element_alive sort l ls rest ws made e dead (inr (inr (inr (inr (inl q))))) m = q
+element_alive sort l ls rest ws made e dead (inl q) m = absurd (no_token t.Word _ l ls rest ws made refl e (sym q) m)
+element_alive sort l ls rest ws made e dead (inr (inl q)) m = absurd (dead rest ws (subst (λ (r : Row). Means r (l ∷ ls) rest ws) (sym q) m))
+element_alive sort l ls rest ws made e dead (inr (inr (inl q))) m = absurd (no_token t.Text _ l ls rest ws made refl e (sym q) m)
+element_alive sort l ls rest ws made e dead (inr (inr (inr (inl q)))) m = absurd (no_token t.Caret _ l ls rest ws made refl e (sym q) m)
+element_alive sort l ls rest ws made e dead (inr (inr (inr (inr (inl q))))) m = sym q
 element_alive sort l ls rest ws made e dead (inr (inr (inr (inr (inr h))))) m = absurd h
 
 prim_only : (sort : Sort) (l : Lexeme) (ls : List Lexeme) (made other : Row) (rest rest2 : List Lexeme) (ws ws2 : List Value) → terminal_at l ≡ t.ParenL → IsOneOf made (prim_rows sort) → IsOneOf other (prim_rows sort) → Means made (l ∷ ls) rest ws → Means other (l ∷ ls) rest2 ws2 → other ≡ made

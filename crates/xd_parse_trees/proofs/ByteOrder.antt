@@ -9,11 +9,12 @@ use Rattle.std.proofs.lemmas.Slice.Eq.{bytes_eq-Decides}
 use Rattle.std.specs.declared.cmp.Ordering.{Ordering}
 use Rattle.std.specs.declared.cmp.Ordering.TheVariants.{Less, Equal, Greater}
 use Rattle.xd_doc.specs.Classes.{NameClass}
+use Rattle.xd_doc.specs.ByteOrder.{put_word, in_byte_order}
 use Rattle.xd_doc.specs.ClassForms.{names_label}
 use Rattle.xd_doc.proofs.SortedNames.{same_words}
 use Rattle.xd_doc.proofs.Bools.{or_swap, or_twice}
 use Rattle.xd_syntax.specs.Table.{IsWordsNode}
-use Rattle.xd_parse_trees.specs.Merged.{put_by, put_word, in_byte_order, class_of}
+use Rattle.xd_parse_trees.specs.Merged.{class_of}
 
 abbrev R : List ℕ → List ℕ → Ordering
 R x y = slice_cmp nat_cmp x y
@@ -87,7 +88,7 @@ some_put : (w : List ℕ) (xs : List (List ℕ)) → 1 ≤ length (put_word w xs
 some_put w [] = omega arith
 some_put w (x ∷ xs) = go (R w x)
   where
-    go : (o : Ordering) → 1 ≤ length (put_by o w x xs (put_word w xs))
+    go : (o : Ordering) → 1 ≤ length (elim o as (λ _. List (List ℕ)) [ Less ↦ w ∷ (x ∷ xs) | Equal ↦ x ∷ xs | Greater ↦ x ∷ put_word w xs ])
     go Less = omega arith
     go Equal = omega arith
     go Greater = omega arith

@@ -11,7 +11,7 @@ use Rattle.xd_syntax.specs.TypeText.{any_type_level, sequence_level, postfix_lev
 use Rattle.xd_grammar.specs.declared.grammar.Terminal.{Terminal}
 use Rattle.xd_grammar.specs.declared.grammar.Terminal.TheVariants as t
 use Rattle.xd_parse_trees.specs.Merged.{parts_of_seq, parts_of_alt, merged_seq, sequence, alternative}
-use Rattle.xd_parse_trees.specs.Values.{repeated, named}
+use Rattle.xd_parse_trees.specs.Values.{repeated, named_type}
 
 -- ---- how deep a type is at a level, beside the next
 abbrev pub any_depth : PlacedTree → ℕ
@@ -252,7 +252,7 @@ repeated_within l d t.Star T h = h
 repeated_within l d t.Plus T h = h
 repeated_within l d k T h = h
 
-pub named_within : (l d : ℕ) (x : List ℕ) (p : Place) → d ≤ l → PrimWithin l d (named x p)
+pub named_within : (l d : ℕ) (x : List ℕ) (p : Place) → d ≤ l → PrimWithin l d (named_type x p)
 named_within l d x p h = go (bytes_eq string_word x)
   where
     go : (b : Bool) → PrimWithin l d (cond b (Text_at p) (Name_at p x))

@@ -13,7 +13,7 @@ use Rattle.xd_grammar.specs.declared.grammar.Terminal.{Terminal}
 use Rattle.xd_grammar.specs.declared.grammar.Terminal.TheVariants as t
 use Rattle.xd_grammar.specs.Fits.{same}
 use Rattle.xd_parse_trees.specs.Lookahead.{IsAhead, IsInFront}
-use Rattle.xd_grammar.specs.Text.{terminal_of, word_terminal}
+use Rattle.xd_grammar.specs.Text.{kind_terminal, word_terminal}
 
 -- the test of a word against a keyword failed, where the result is no keyword
 not_taken : (b : Bool) (k rest : Terminal) → same k t.Word ≡ false → cond b k rest ≡ t.Word → b ≡ false
@@ -61,7 +61,7 @@ not_number : (j : Terminal) → j ≡ t.Word → same j t.Word ≡ false → ⊥
 not_number j e f = let q : same j t.Word ≡ true = rw e refl in let g : true ≡ false = sym q ∙ f in cc
 
 -- a token that is a word to the grammar is no keyword
-pub terminal_plain : (k : Kind) (w : List ℕ) → terminal_of k w ≡ t.Word → has_word keywords w ≡ false
+pub terminal_plain : (k : Kind) (w : List ℕ) → kind_terminal k w ≡ t.Word → has_word keywords w ≡ false
 terminal_plain kinds.Word w e = word_plain w e
 terminal_plain kinds.Label w e = absurd (not_number t.Label e refl)
 terminal_plain kinds.Text w e = absurd (not_number t.Text e refl)

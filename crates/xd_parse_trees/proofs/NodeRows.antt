@@ -21,11 +21,12 @@ use Rattle.xd_grammar.specs.declared.grammar.Sort.{Sort}
 use Rattle.xd_grammar.specs.declared.grammar.Sort.TheVariants as sorts
 use Rattle.xd_parse_trees.specs.declared.parts.Parts.{Parts}
 use Rattle.xd_parse_trees.specs.declared.parts.Parts.TheVariants.{One, Sequence, Alternative}
-use Rattle.xd_grammar.specs.Grammar.{Row, rules, IsOneOf}
+use Rattle.xd_doc.specs.Members.{IsOneOf}
+use Rattle.xd_grammar.specs.Grammar.{Row, rules}
 use Rattle.xd_grammar.specs.Fits.{same, first_fit}
 use Rattle.xd_lex.specs.Spelled.{unescaped}
 use Rattle.xd_parse_trees.specs.Merged.{sequence, alternative, class_of}
-use Rattle.xd_parse_trees.specs.Values.{Value, mark, word, absent, a_tree, trees, class, texts, labelled, named, repeated, value_of}
+use Rattle.xd_parse_trees.specs.Values.{Value, mark, word, absent, a_tree, trees, class, texts, labelled, named_type, repeated, value_of}
 use Rattle.xd_parse_trees.specs.Means.{Means}
 use Rattle.xd_parse_trees.specs.Reading.{Reads, SpellNo, group_row, element_row, front_terminal, front_place, front_text, behind}
 use Rattle.xd_parse_trees.specs.Shallow.{NoDeeper, TreeWithin, TreesWithin}
@@ -171,7 +172,7 @@ content_full s from middle T h r =
     (row_part (n.Alternative s) _ from middle _ _ _ r (row_token t.BracketR _ middle _ _ (row_closed _ _ _ _ (row_end (behind middle)))))
 
 -- ---- primaries
-pub primary_word : (s : Sort) (from : List Lexeme) → front_terminal from ≡ t.Word → Reads (n.Prim s) from (behind from) (a_tree (named (front_text from) (front_place from)))
+pub primary_word : (s : Sort) (from : List Lexeme) → front_terminal from ≡ t.Word → Reads (n.Prim s) from (behind from) (a_tree (named_type (front_text from) (front_place from)))
 primary_word s from e = fit_at (n.Prim s) _ t.Word from (behind from) _ e refl refl (row_token t.Word _ from _ _ (row_end (behind from)))
 
 -- a row that begins with another token
@@ -180,13 +181,13 @@ token_other j k row from rest vs e h m =
     let v : MeansView (Token j ∷ row) from rest vs = means_view m in same-false j k h (sym v.4 ∙ sym (ap front_terminal v.3) ∙ e)
 
 -- a row that is another one
-not_row : (other row : Row) (from rest : List Lexeme) (vs : List Value) → Means other from rest vs → other ≡ row → (Means row from rest vs → ⊥) → ⊥
-not_row other row from rest vs m e h = h (subst (λ (r : Row). Means r from rest vs) e m)
+not_row : (other row : Row) (from rest : List Lexeme) (vs : List Value) → Means other from rest vs → row ≡ other → (Means row from rest vs → ⊥) → ⊥
+not_row other row from rest vs m e h = h (subst (λ (r : Row). Means r from rest vs) (sym e) m)
 
 -- a parenthesis that begins no class
 only_group : (s : Sort) (other : Row) (from rest : List Lexeme) (vs : List Value) → front_terminal from ≡ t.ParenL → SpellNo (element_row s) from → Means other from rest vs → IsOneOf other (rules (n.Prim s)) → other ≡ group_row s
 only_group s other from rest vs f h m (inl e) = absurd (not_row other _ from rest vs m e (token_other t.Word t.ParenL [] from rest vs f refl))
-only_group s other from rest vs f h m (inr (inl e)) = e
+only_group s other from rest vs f h m (inr (inl e)) = sym e
 only_group s other from rest vs f h m (inr (inr (inl e))) = absurd (not_row other _ from rest vs m e (token_other t.Text t.ParenL [] from rest vs f refl))
 only_group s other from rest vs f h m (inr (inr (inr (inl e)))) = absurd (not_row other _ from rest vs m e (token_other t.Caret t.ParenL _ from rest vs f refl))
 only_group s other from rest vs f h m (inr (inr (inr (inr (inl e))))) = absurd (not_row other _ from rest vs m e (h rest vs))
@@ -377,7 +378,7 @@ operator_not_read s from rows made h k = record {
 pub type_name : (w : List ℕ) → has_word keywords w ≡ false → bytes_eq w string_word ≡ false → is_type_name w ≡ true
 type_name w h e = let f : bytes_eq string_word w ≡ false = bytes_eq-turned w string_word e in rw (h, f) refl
 
-pub named_name : (w : List ℕ) (p : Place) → bytes_eq w string_word ≡ false → named w p ≡ Name_at p w
+pub named_name : (w : List ℕ) (p : Place) → bytes_eq w string_word ≡ false → named_type w p ≡ Name_at p w
 named_name w p e = let f : bytes_eq string_word w ≡ false = bytes_eq-turned w string_word e in rw f refl
 
 -- ---- what each nonterminal reads
@@ -445,13 +446,13 @@ part_read s from middle to old rows new one made h r q = record {
 }
 
 pub word_read : (s : Sort) (from to : List Lexeme) (old new : List TableRow) (made : Pieces) (x : List ℕ) (p : Place) → front_terminal from ≡ t.Word → (front_terminal from ≡ t.Word → x ≡ front_text from) →
-    p ≡ front_place from → to ≡ behind from → Merges old new (named x p) made → ReadsNode (n.Prim s) from to old new made
+    p ≡ front_place from → to ≡ behind from → Merges old new (named_type x p) made → ReadsNode (n.Prim s) from to old new made
 word_read s from to old new made x p h f q e a =
-    reads_made (n.Prim s) from to old old new (named x p) made (KeepsRows-refl old) a
-    (subst (λ (y : List Lexeme). Reads (n.Prim s) from y (a_tree (named x p))) (sym e)
-    (subst (λ (y : Place). Reads (n.Prim s) from (behind from) (a_tree (named x y))) (sym q)
-    (subst (λ (y : List ℕ). Reads (n.Prim s) from (behind from) (a_tree (named y (front_place from)))) (sym (f h)) (primary_word s from h))))
-    (same_behind from to e) (none_deeper (TreeWithin (named x p)) old)
+    reads_made (n.Prim s) from to old old new (named_type x p) made (KeepsRows-refl old) a
+    (subst (λ (y : List Lexeme). Reads (n.Prim s) from y (a_tree (named_type x p))) (sym e)
+    (subst (λ (y : Place). Reads (n.Prim s) from (behind from) (a_tree (named_type x y))) (sym q)
+    (subst (λ (y : List ℕ). Reads (n.Prim s) from (behind from) (a_tree (named_type y (front_place from)))) (sym (f h)) (primary_word s from h))))
+    (same_behind from to e) (none_deeper (TreeWithin (named_type x p)) old)
 
 pub text_read : (s : Sort) (from to : List Lexeme) (old new : List TableRow) (made : Pieces) (x : List ℕ) (p : Place) → front_terminal from ≡ t.Text → (front_terminal from ≡ t.Text → x ≡ unescaped (front_text from)) →
     p ≡ front_place from → to ≡ behind from → Merges old new (Words_at p (class_of false (x ∷ []))) made → ReadsNode (n.Prim s) from to old new made

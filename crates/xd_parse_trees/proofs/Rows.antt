@@ -9,7 +9,8 @@ use Rattle.xd_grammar.specs.declared.grammar.Sort.TheVariants as sorts
 use Rattle.xd_grammar.specs.declared.grammar.Symbol.TheVariants.{Token, Opening, Closed, Unless, Part}
 use Rattle.xd_grammar.specs.declared.grammar.Terminal.{Terminal}
 use Rattle.xd_grammar.specs.declared.grammar.Terminal.TheVariants as t
-use Rattle.xd_grammar.specs.Grammar.{Row, rules, IsOneOf}
+use Rattle.xd_doc.specs.Members.{IsOneOf}
+use Rattle.xd_grammar.specs.Grammar.{Row, rules}
 use Rattle.xd_grammar.specs.Fits.{same, fits, first_fit}
 use Rattle.xd_parse_trees.specs.Values.{Value, token_of, token_value, value_of}
 use Rattle.xd_parse_trees.specs.Means.{Means, ends, a_token, an_opening, a_closing, a_bar, a_part}
@@ -96,7 +97,7 @@ by_row part made from to vs only r rest w m =
     (sym z.0 ∙ q.0, one_value w (value_of part vs) (v.7 ∙ cons_values (value_of part v.2) (value_of part vs) v.3 [] (ap (value_of part) q.1) z.1))
 
 only_one : (other made : Row) → IsOneOf other (made ∷ []) → other ≡ made
-only_one other made (inl e) = e
+only_one other made (inl e) = sym e
 only_one other made (inr h) = absurd h
 
 -- a nonterminal of one row

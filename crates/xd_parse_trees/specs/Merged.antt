@@ -1,12 +1,9 @@
 -- How parts become one node: sequences and alternatives are merged, and the names of a class are
 -- put in order.
 use Rattle.std.specs.Prelude.{ℕ, Bool, List, [], ◌∷◌, flat_map}
-use Rattle.std.specs.Ordering.{nat_cmp}
-use Rattle.std.specs.Cmp.Lexicographic.{slice_cmp}
-use Rattle.std.specs.declared.cmp.Ordering.{Ordering}
-use Rattle.std.specs.declared.cmp.Ordering.TheVariants as orders
 use Rattle.xd_base.specs.declared.Place.{Place}
 use Rattle.xd_doc.specs.Classes.{LabelClass}
+use Rattle.xd_doc.specs.ByteOrder.{in_byte_order}
 use Rattle.xd_syntax.specs.Placed.{PlacedTree, Empty_at, Seq_at, Alt_at, place_of, placed_seq, placed_alt}
 use Rattle.xd_syntax.specs.Expression.{Expression, Nothing, Joined, place_of_expression, joined}
 
@@ -37,11 +34,14 @@ abbrev pub alternative : PlacedTree → List PlacedTree → PlacedTree
 alternative T [] = T
 alternative T (U ∷ Us) = placed_alt (place_of T) (flat_map parts_of_alt (T ∷ (U ∷ Us)))
 
+-- the parts that an expression is as a part of a sequence: none where it is empty
 abbrev pub parts_of_expression : Expression → List Expression
 parts_of_expression (Nothing p) = []
 parts_of_expression (Joined p e f) = e ∷ parts_of_expression f
 parts_of_expression e = e ∷ []
 
+-- The sequence of expressions that are merged, at the place of its first; where nothing is left it
+-- is empty, at the place given.
 abbrev pub merged_expression : Place → List Expression → Expression
 merged_expression p [] = Nothing p
 merged_expression p (e ∷ es) = joined (place_of_expression e) (e ∷ es)
@@ -49,23 +49,8 @@ merged_expression p (e ∷ es) = joined (place_of_expression e) (e ∷ es)
 -- one expression and those after it; one alone stays what it is
 abbrev pub sequence_of_expressions : Expression → List Expression → Expression
 sequence_of_expressions e [] = e
-sequence_of_expressions e (f ∷ fs) = merged_expression (place_of_expression e) (flat_map parts_of_expression (e ∷ (f ∷ fs)))
-
--- a word before a first word, as it, or with what comes of those after it
-abbrev pub put_by : Ordering → (word first : List ℕ) (behind put : List (List ℕ)) → List (List ℕ)
-put_by orders.Less w x xs put = w ∷ (x ∷ xs)
-put_by orders.Equal w x xs put = x ∷ xs
-put_by orders.Greater w x xs put = x ∷ put
-
--- a word among words in byte order, once
-abbrev pub put_word : List ℕ → List (List ℕ) → List (List ℕ)
-put_word w [] = w ∷ []
-put_word w (x ∷ xs) = put_by (slice_cmp nat_cmp w x) w x xs (put_word w xs)
-
--- words in byte order, each once
-abbrev pub in_byte_order : List (List ℕ) → List (List ℕ)
-in_byte_order [] = []
-in_byte_order (w ∷ ws) = put_word w (in_byte_order ws)
+sequence_of_expressions e (f ∷ fs) =
+    merged_expression (place_of_expression e) (flat_map parts_of_expression (e ∷ (f ∷ fs)))
 
 -- these labels or texts, or all but these
 abbrev pub class_of : (except : Bool) → List (List ℕ) → LabelClass

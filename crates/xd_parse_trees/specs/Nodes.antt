@@ -17,7 +17,8 @@ use Rattle.xd_base.specs.declared.Place.{Place}
 use Rattle.xd_parse_trees.specs.declared.parts.Parts.{Parts}
 use Rattle.xd_parse_trees.specs.declared.parts.Parts.TheVariants.{One, Sequence, Alternative}
 use Rattle.xd_parse_trees.specs.Values.{Value, a_tree, value_of}
-use Rattle.xd_grammar.specs.Grammar.{Row as GrammarRow, rules, IsOneOf}
+use Rattle.xd_doc.specs.Members.{IsOneOf}
+use Rattle.xd_grammar.specs.Grammar.{Row as GrammarRow, rules}
 use Rattle.xd_parse_trees.specs.Means.{Means}
 use Rattle.xd_parse_trees.specs.Reading.{Reads, element_row}
 use Rattle.xd_parse_trees.specs.Pieces.{Pieces, tree_of, Stand}

@@ -13,7 +13,7 @@ ghost use Rattle.xd_grammar.specs.declared.grammar.Nonterminal.TheVariants as no
 ghost use Rattle.xd_grammar.specs.declared.grammar.Terminal.TheVariants as terminals;
 ghost use Rattle.xd_grammar.specs.declared.grammar.Sort.TheVariants as sorts;
 ghost use Rattle.xd_parse_trees.specs.Merged.{class_of};
-ghost use Rattle.xd_parse_trees.specs.Values.{a_tree, mark, named, word};
+ghost use Rattle.xd_parse_trees.specs.Values.{a_tree, mark, named_type, word};
 ghost use Rattle.xd_parse_trees.specs.Reading.{front_terminal};
 ghost use Rattle.xd_parse_trees.specs.Pieces.{pieces, tree_of, Stand};
 ghost use Rattle.xd_parse_trees.specs.Nodes.{AddsAround, Merges, ReadsNode, ReadsInto, BeginsElement, is_operator, repeated_node};
@@ -30,7 +30,7 @@ use xd_grammar::{Sort, Terminal};
 /// A word: `String` is the type of texts.
 fn add_named<N: Nodes>(nodes: &mut N, word: Word) -> Result<Parts<N::Id>, NoMemory>
     requires { has_word keywords word.word ≡ false }
-    ensures merges { IfOk result (λ parts. Merges (N.rows nodes.old) (N.rows nodes.new) (named word.word word.place) (pieces N.at parts)) }
+    ensures merges { IfOk result (λ parts. Merges (N.rows nodes.old) (N.rows nodes.new) (named_type word.word word.place) (pieces N.at parts)) }
     ensures keeps { KeepsRows (N.rows nodes.old) (N.rows nodes.new) }
 {
     let Word { word, place } = word;

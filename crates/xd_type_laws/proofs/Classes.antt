@@ -27,10 +27,11 @@ use Rattle.xd_grammar.specs.declared.grammar.Sort.TheVariants as sorts
 use Rattle.xd_grammar.specs.declared.grammar.Symbol.TheVariants.{Token, Opening, Closed, Unless, Part}
 use Rattle.xd_grammar.specs.declared.grammar.Terminal.{Terminal}
 use Rattle.xd_grammar.specs.declared.grammar.Terminal.TheVariants as t
-use Rattle.xd_grammar.specs.Grammar.{rules, IsOneOf}
+use Rattle.xd_doc.specs.Members.{IsOneOf}
+use Rattle.xd_grammar.specs.Grammar.{rules}
 use Rattle.xd_grammar.specs.Text.{word_terminal}
 use Rattle.xd_parse_trees.specs.Merged.{class_of}
-use Rattle.xd_parse_trees.specs.Values.{quoted as a_quoted, mark, a_tree, names, texts, labels, class, labelled, token_of, value_of, named}
+use Rattle.xd_parse_trees.specs.Values.{quoted_text as a_quoted, mark, a_tree, names, texts, labels, class, labelled, token_of, value_of, named_type}
 use Rattle.xd_parse_trees.proofs.ByteOrder.{class_made}
 use Rattle.xd_type_laws.proofs.RowsReadLemmas.{Reads, read_end, read_token, read_opening, read_closed, read_alone, read_then, read_unless, same_bytes, starts_token}
 use Rattle.xd_type_laws.proofs.Levels.{Spells, prim, alt, behind_prim, behind_any}
@@ -63,7 +64,7 @@ word_front (c ∷ cs) h = (omega arith, no_star c (and_parts (is_word_start c) (
     no_star : (c : ℕ) → is_word_start c ≡ true → (c == 42) ≡ false
     no_star c h = grind (arith, nat_tests)
 
-word_read : (l d : ℕ) (p : Place) (w rest : List ℕ) → is_word w ≡ true → EndsWord rest → word_terminal w ≡ t.Word → Reads l d (Part prim ∷ []) d p w rest (a_tree (named w p) ∷ [])
+word_read : (l d : ℕ) (p : Place) (w rest : List ℕ) → is_word w ≡ true → EndsWord rest → word_terminal w ≡ t.Word → Reads l d (Part prim ∷ []) d p w rest (a_tree (named_type w p) ∷ [])
 word_read l d p w rest h e f =
     read_alone l d d prim (Token t.Word ∷ []) p w rest _ (inl refl)
     (same_bytes l d d (Token t.Word ∷ []) p (w ++ []) w rest _ (append-nil w)
@@ -73,8 +74,8 @@ pub a_name : (x : List ℕ) → is_word x ≡ true → is_type_name x ≡ true �
 a_name x h i =
     let q = is_name (has_word keywords x) (bytes_eq string_word x) i in
     let f = word_front x h in
-    let tree : (p : Place) → unplaced (named x p) ≡ Name x = λ p. ap (λ b. unplaced (cond b (Text_at p) (Name_at p x))) q.1 in
-    record { some = f.0; front = f.1; read = λ l d p rest k fo. (named x p, tree p, word_read l d p x rest h fo.ends (plain_word x q.0)) }
+    let tree : (p : Place) → unplaced (named_type x p) ≡ Name x = λ p. ap (λ b. unplaced (cond b (Text_at p) (Name_at p x))) q.1 in
+    record { some = f.0; front = f.1; read = λ l d p rest k fo. (named_type x p, tree p, word_read l d p x rest h fo.ends (plain_word x q.0)) }
 
 pub all_texts_read : Spells prim behind_prim string_word Text 0
 all_texts_read = record { some = omega arith; front = refl; read = λ l d p rest k fo. (Text_at p, refl, word_read l d p string_word rest refl fo.ends refl) }

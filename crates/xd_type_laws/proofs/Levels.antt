@@ -20,8 +20,9 @@ use Rattle.xd_grammar.specs.declared.grammar.Terminal.{Terminal}
 use Rattle.xd_grammar.specs.declared.grammar.Terminal.TheVariants as t
 use Rattle.xd_grammar.specs.Fits.{same}
 use Rattle.xd_parse_trees.specs.Merged.{parts_of_seq, parts_of_alt, merged_seq, sequence, alternative}
-use Rattle.xd_grammar.specs.Grammar.{rules, IsOneOf}
-use Rattle.xd_grammar.specs.Text.{terminal_of}
+use Rattle.xd_doc.specs.Members.{IsOneOf}
+use Rattle.xd_grammar.specs.Grammar.{rules}
+use Rattle.xd_grammar.specs.Text.{kind_terminal}
 use Rattle.xd_parse_trees.specs.Values.{Value, absent, a_tree, token_of, trees, value_of}
 use Rattle.xd_type_laws.proofs.RowsReadLemmas.{Reads, read_end, read_token, read_opening, read_closed, read_alone, read_then, read_unless, same_bytes, Starts, starts_token}
 
@@ -170,7 +171,7 @@ longer (c ∷ cs) r h = omega arith
 abbrev IsOperator : Terminal → List ℕ → (Tree → Tree) → Type 0
 IsOperator mark x op = (V : PlacedTree) (p : Place) → (U : PlacedTree) × (unplaced U ≡ op (unplaced V)) × (value_of post (a_tree V ∷ (value_of n.Operator (token_of mark x p ∷ []) ∷ [])) ≡ a_tree U)
 
-with_operator : (byte : ℕ) (kind : Kind) (mark : Terminal) (op : Tree → Tree) → ((rest : List ℕ) → IsToken kind (byte ∷ []) rest) → terminal_of kind (byte ∷ []) ≡ mark → behind_prim mark ≡ true → ((rest : List ℕ) → EndsWord (byte ∷ rest)) →
+with_operator : (byte : ℕ) (kind : Kind) (mark : Terminal) (op : Tree → Tree) → ((rest : List ℕ) → IsToken kind (byte ∷ []) rest) → kind_terminal kind (byte ∷ []) ≡ mark → behind_prim mark ≡ true → ((rest : List ℕ) → EndsWord (byte ∷ rest)) →
     IsOneOf (Token mark ∷ []) (rules n.Operator) → IsOperator mark (byte ∷ []) op → (s : List ℕ) (T : Tree) (k : ℕ) → Spells prim behind_prim s T k → Spells post behind_post (s ++ byte ∷ []) (op T) k
 with_operator byte kind mark op token is may ends one made s T k a = record {
   some = longer s (byte ∷ []) a.some;

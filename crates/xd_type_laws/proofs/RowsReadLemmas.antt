@@ -7,8 +7,9 @@ use Rattle.xd_lex.proofs.Skipped.{past-append}
 use Rattle.xd_grammar.specs.declared.grammar.Nonterminal.{Nonterminal}
 use Rattle.xd_grammar.specs.declared.grammar.Symbol.TheVariants.{Token, Opening, Closed, Unless, Part}
 use Rattle.xd_grammar.specs.declared.grammar.Terminal.{Terminal}
-use Rattle.xd_grammar.specs.Grammar.{Row, rules, IsOneOf, Whole, Derives, token, opening, closed, unless, by}
-use Rattle.xd_grammar.specs.Text.{terminal_of, terminals_of, terminal_at}
+use Rattle.xd_doc.specs.Members.{IsOneOf}
+use Rattle.xd_grammar.specs.Grammar.{Row, rules, Entire, Derives, token, opening, closed, unless, by}
+use Rattle.xd_grammar.specs.Text.{kind_terminal, terminals_at, terminal_at}
 use Rattle.xd_parse_trees.specs.Values.{Value, token_of, value_of}
 use Rattle.xd_parse.proofs.Spelled.{MeansAt, ends_at, token_at, opening_at, closing_at, bar_at, part_at}
 use Rattle.xd_lex.proofs.Symbols.{IsToken}
@@ -26,21 +27,21 @@ joined l d e row p s r rest vs m =
     subst (λ q. MeansAt l d row (tokens_from 0 p ((s ++ r) ++ rest)) (tokens_from 0 q rest) e vs) (sym (past-append p s r))
     (subst (λ x. MeansAt l d row (tokens_from 0 p x) (tokens_from 0 (past (past p s) r) rest) e vs) (sym (append_assoc s r rest)) m)
 
-valued : (l d e : ℕ) (row : Row) (ls to : List Lexeme) (k : Kind) (x : List ℕ) (p : Place) (j : Terminal) (vs : List Value) → terminal_of k x ≡ j → MeansAt l d row ls to e vs →
+valued : (l d e : ℕ) (row : Row) (ls to : List Lexeme) (k : Kind) (x : List ℕ) (p : Place) (j : Terminal) (vs : List Value) → kind_terminal k x ≡ j → MeansAt l d row ls to e vs →
     MeansAt l d (Token j ∷ row) (record { kind = k; text = x; place = p } ∷ ls) to e (token_of j x p ∷ vs)
 valued l d e row ls to k x p j vs f m = subst (λ i. MeansAt l d (Token i ∷ row) (record { kind = k; text = x; place = p } ∷ ls) to e (token_of i x p ∷ vs)) f (token_at m)
 
-opened : (l d e : ℕ) (row : Row) (ls to : List Lexeme) (k : Kind) (x : List ℕ) (p : Place) (j : Terminal) (vs : List Value) → terminal_of k x ≡ j → d < l → MeansAt l (suc d) row ls to e vs →
+opened : (l d e : ℕ) (row : Row) (ls to : List Lexeme) (k : Kind) (x : List ℕ) (p : Place) (j : Terminal) (vs : List Value) → kind_terminal k x ≡ j → d < l → MeansAt l (suc d) row ls to e vs →
     MeansAt l d (Opening j ∷ row) (record { kind = k; text = x; place = p } ∷ ls) to e (token_of j x p ∷ vs)
 opened l d e row ls to k x p j vs f h m = subst (λ i. MeansAt l d (Opening i ∷ row) (record { kind = k; text = x; place = p } ∷ ls) to e (token_of i x p ∷ vs)) f (opening_at h m)
 
-pub read_token : (l d e : ℕ) (row : Row) (p : Place) (k : Kind) (j : Terminal) (x s rest : List ℕ) (vs : List Value) → IsToken k x (s ++ rest) → terminal_of k x ≡ j → Reads l d row e (past p x) s rest vs →
+pub read_token : (l d e : ℕ) (row : Row) (p : Place) (k : Kind) (j : Terminal) (x s rest : List ℕ) (vs : List Value) → IsToken k x (s ++ rest) → kind_terminal k x ≡ j → Reads l d row e (past p x) s rest vs →
     Reads l d (Token j ∷ row) e p (x ++ s) rest (token_of j x p ∷ vs)
 read_token l d e row p k j x s rest vs a f m =
     joined l d e (Token j ∷ row) p x s rest (token_of j x p ∷ vs)
     (subst (λ ls. MeansAt l d (Token j ∷ row) ls (tokens_from 0 (past (past p x) s) rest) e (token_of j x p ∷ vs)) (sym (a p)) (valued l d e row _ _ k x p j vs f m))
 
-pub read_opening : (l d e : ℕ) (row : Row) (p : Place) (k : Kind) (j : Terminal) (x s rest : List ℕ) (vs : List Value) → IsToken k x (s ++ rest) → terminal_of k x ≡ j → d < l → Reads l (suc d) row e (past p x) s rest vs →
+pub read_opening : (l d e : ℕ) (row : Row) (p : Place) (k : Kind) (j : Terminal) (x s rest : List ℕ) (vs : List Value) → IsToken k x (s ++ rest) → kind_terminal k x ≡ j → d < l → Reads l (suc d) row e (past p x) s rest vs →
     Reads l d (Opening j ∷ row) e p (x ++ s) rest (token_of j x p ∷ vs)
 read_opening l d e row p k j x s rest vs a f h m =
     joined l d e (Opening j ∷ row) p x s rest (token_of j x p ∷ vs)
@@ -80,7 +81,7 @@ read_then l d m e part row p s r rest v us a b = joined l d e (Part part ∷ row
 pub record Starts (rest : List ℕ) (k : Terminal) : Type 0 where
   pub at : (p : Place) → (l : Lexeme) × (ls : List Lexeme) × (tokens_from 0 p rest ≡ l ∷ ls) × (terminal_at l ≡ k)
 
-pub starts_token : (k : Kind) (j : Terminal) (x rest : List ℕ) → IsToken k x rest → terminal_of k x ≡ j → Starts (x ++ rest) j
+pub starts_token : (k : Kind) (j : Terminal) (x rest : List ℕ) → IsToken k x rest → kind_terminal k x ≡ j → Starts (x ++ rest) j
 starts_token k j x rest a f = record { at = λ p. (record { kind = k; text = x; place = p }, tokens_from 0 (past p x) rest, a p, f) }
 
 pub read_unless : (l d e : ℕ) (j k : Terminal) (row : Row) (p : Place) (s rest : List ℕ) (vs : List Value) → j ≢ k → Starts (s ++ rest) k → Reads l d row e p s rest vs → Reads l d (Unless j ∷ row) e p s rest vs
@@ -90,7 +91,7 @@ read_unless l d e j k row p s rest vs ne f m =
     subst (λ ls. MeansAt l d (Unless j ∷ row) ls (tokens_from 0 (past p s) rest) e vs) (sym a.2) (bar_at ne' (subst (λ ls. MeansAt l d row ls (tokens_from 0 (past p s) rest) e vs) a.2 m))
 
 -- ---- what is read is derived
-pub derived : {l d e : ℕ} {row : Row} {from to : List Lexeme} {vs : List Value} → MeansAt l d row from to e vs → (more : Row) → Derives Whole l e more (terminals_of to) → Derives Whole l d (row ++ more) (terminals_of from)
+pub derived : {l d e : ℕ} {row : Row} {from to : List Lexeme} {vs : List Value} → MeansAt l d row from to e vs → (more : Row) → Derives Entire l e more (terminals_at to) → Derives Entire l d (row ++ more) (terminals_at from)
 derived ends_at more g = g
 derived (token_at m) more g = token (derived m more g)
 derived (opening_at h m) more g = opening h (derived m more g)
