@@ -8,7 +8,11 @@ use Rattle.std.specs.declared.cmp.Ordering.TheVariants.{Less, Equal, Greater}
 abbrev pub put_word : List ℕ → List (List ℕ) → List (List ℕ)
 put_word w [] = w ∷ []
 put_word w (v ∷ vs) =
-    elim (slice_cmp nat_cmp w v) as (λ _. List (List ℕ)) [ Less ↦ w ∷ (v ∷ vs) | Equal ↦ v ∷ vs | Greater ↦ v ∷ put_word w vs ]
+    elim (slice_cmp nat_cmp w v) as (λ _. List (List ℕ)) [
+      | Less ↦ w ∷ (v ∷ vs)
+      | Equal ↦ v ∷ vs
+      | Greater ↦ v ∷ put_word w vs
+    ]
 
 -- these words in byte order, each once
 abbrev pub in_byte_order : List (List ℕ) → List (List ℕ)

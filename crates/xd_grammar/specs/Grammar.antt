@@ -23,15 +23,16 @@ Row = List Symbol
 -- Of `(a|b)[]`, the tokens up to the `)` are the front of a group and of a class's list. The `[` is
 -- refused by the group, which ends with `Unless t.BracketL`, and opens the content of the class. In
 -- `a,b` the sequence can't end at `a`, since `MoreParts` is left out by `Unless t.Comma` alone. In
--- `a[b[]]` the two labels open a level each, so the second stands where two are open, and the
--- `Closed` after each `]` closes one again; `Closed` and `Unless` take no token.
+-- `a[b[]]` each label opens a level, so two are open between `b[` and its `]`, and the `Closed`
+-- after a `]` closes one again. `Closed` and `Unless` take no token.
 abbrev pub rules : Nonterminal → List Row
 -- definitions  = { "type" word "=" alternative
 --              | "fun" word parameter { parameter } ":" alternative "=" expression } End
 rules n.Definitions =
-    (Token t.Type ∷ Token t.Word ∷ Token t.Equals ∷ Part (n.Alternative sorts.Type) ∷ Part n.Definitions ∷ [])
-    ∷ (Token t.Fun ∷ Token t.Word ∷ Part n.Param ∷ Part n.MoreParams
-    ∷ Token t.Colon ∷ Part (n.Alternative sorts.Type) ∷ Token t.Equals ∷ Part n.Expr ∷ Part n.Definitions ∷ [])
+    (Token t.Type ∷ Token t.Word ∷ Token t.Equals
+    ∷ Part (n.Alternative sorts.Type) ∷ Part n.Definitions ∷ [])
+    ∷ (Token t.Fun ∷ Token t.Word ∷ Part n.Param ∷ Part n.MoreParams ∷ Token t.Colon
+    ∷ Part (n.Alternative sorts.Type) ∷ Token t.Equals ∷ Part n.Expr ∷ Part n.Definitions ∷ [])
     ∷ (Token t.End ∷ []) ∷ []
 -- parameter    = "(" "val" word "as" alternative ")"
 rules n.Param =
@@ -181,7 +182,8 @@ pub data Derives (extent : Extent) (limit : ℕ) : ℕ → Row → List Terminal
       Derives extent limit depth row ts → Derives extent limit (suc depth) (Closed ∷ row) ts
   unless : {depth : ℕ} {j k : Terminal} {row : Row} {ts : List Terminal} → j ≢ k →
       Derives extent limit depth row (k ∷ ts) → Derives extent limit depth (Unless j ∷ row) (k ∷ ts)
-  by : {depth : ℕ} {part : Nonterminal} (made : Row) {row : Row} {ts : List Terminal} → IsOneOf made (rules part) →
+  by : {depth : ℕ} {part : Nonterminal} (made : Row) {row : Row} {ts : List Terminal} →
+      IsOneOf made (rules part) →
       Derives extent limit depth (made ++ row) ts → Derives extent limit depth (Part part ∷ row) ts
 
 -- the tokens are a whole text of this nonterminal, which ends with `End`

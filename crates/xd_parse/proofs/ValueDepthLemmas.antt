@@ -19,7 +19,7 @@ use Rattle.xd_grammar.specs.Text.{terminal_at}
 use Rattle.xd_syntax.specs.TypeText.{list_depth}
 use Rattle.xd_doc.specs.ByteOrder.{in_byte_order}
 use Rattle.xd_parse_trees.specs.Merged.{class_of}
-use Rattle.xd_parse_trees.specs.Values.{Value, mark, word, label, quoted_text, absent, a_tree, trees, class, names, texts, labelled, token_of, an_expression, a_parameter, parameters, definitions, token_value, value_of}
+use Rattle.xd_parse_trees.specs.Values.{Value, mark, word, label, a_text, absent, a_tree, trees, class, names, texts, labelled, token_of, an_expression, a_parameter, parameters, definitions, token_value, value_of}
 use Rattle.xd_parse_trees.proofs.Depth.{plain, any_depth, AnyWithin, SeqWithin, PostWithin, PrimWithin, prim_post, any_prim, sequence_within, alternative_within, repeated_within, named_within}
 use Rattle.xd_parse.proofs.Spelled.{MeansAt, ends_at, token_at, opening_at, closing_at, bar_at, part_at, MeansWithin}
 
@@ -141,7 +141,7 @@ Within l part d v = Unit {0}
 
 -- what a token may stand for
 abbrev IsOf : Terminal → Value → Type 0
-IsOf t.Text (quoted_text s p) = Unit {0}
+IsOf t.Text (a_text s p) = Unit {0}
 IsOf t.Text v = ⊥
 IsOf k v = Unit {0}
 
@@ -256,7 +256,7 @@ post_row l d ps r =
 
 prim_one : (l d : ℕ) (v : Value) → d ≤ l → Within l (n.Prim sorts.Type) d (value_of (n.Prim sorts.Type) (v ∷ []))
 prim_one l d (word x p) h = named_within l d x p h
-prim_one l d (quoted_text s p) h = (tt, omega arith)
+prim_one l d (a_text s p) h = (tt, omega arith)
 prim_one l d v h = tt
 
 word_row : (l d : ℕ) (ps : List Value) → RowWithin l (Token t.Word ∷ []) d ps → Within l (n.Prim sorts.Type) d (value_of (n.Prim sorts.Type) ps)
@@ -316,7 +316,7 @@ except_row l d ps r =
     subst (λ (x : List Value). Within l (n.Prim sorts.Type) d (value_of (n.Prim sorts.Type) x)) (sym q) (prim_except l d r.0 s.0 s.3)
 
 excepted_one : (l d : ℕ) (v : Value) → d ≤ l → IsOf t.Text v → Within l (n.Excepted sorts.Type) d (value_of (n.Excepted sorts.Type) (v ∷ []))
-excepted_one l d (quoted_text s p) h i = omega arith
+excepted_one l d (a_text s p) h i = omega arith
 excepted_one l d v h i = absurd i
 
 excepted_text_row : (l d : ℕ) (ps : List Value) → RowWithin l (Token t.Text ∷ []) d ps → Within l (n.Excepted sorts.Type) d (value_of (n.Excepted sorts.Type) ps)
@@ -344,7 +344,7 @@ excepted_list_row l d ps r =
     subst (λ (x : List Value). Within l (n.Excepted sorts.Type) d (value_of (n.Excepted sorts.Type) x)) (sym q) (excepted_two l d r.0 s.0 r.3 (as_listed l (suc d) s.0 s.3))
 
 listed_three : (l d : ℕ) (a b c : Value) → Within l (n.ExceptedList sorts.Type) d (value_of (n.ExceptedList sorts.Type) (a ∷ (b ∷ (c ∷ []))))
-listed_three l d (quoted_text s p) (texts ss) (mark k q) = tt
+listed_three l d (a_text s p) (texts ss) (mark k q) = tt
 listed_three l d (names vs) (names ws) (mark j p) = tt
 listed_three l d a b c = tt
 
@@ -356,7 +356,7 @@ listed_texts_row l d ps r =
 
 listed_five : (l d : ℕ) (a b c e f : Value) → Within l (n.Content sorts.Type) (suc (before_one d)) f → Within l (n.ExceptedList sorts.Type) d (value_of (n.ExceptedList sorts.Type) (a ∷ (b ∷ (c ∷ (e ∷ (f ∷ []))))))
 listed_five l d (names vs) (names ws) (mark j p) (mark k q) (a_tree T) h = h
-listed_five l d (quoted_text s p) (texts ss) (mark k q) e f h = tt
+listed_five l d (a_text s p) (texts ss) (mark k q) e f h = tt
 listed_five l d a b c e f h = tt
 
 listed_labels_row : (l d : ℕ) (ps : List Value) → RowWithin l (Part n.AnyWord ∷ Part n.MoreNames ∷ Token t.ParenR ∷ Closed ∷ Opening t.BracketL ∷ Part (n.Content sorts.Type) ∷ []) d ps → Within l (n.ExceptedList sorts.Type) d (value_of (n.ExceptedList sorts.Type) ps)

@@ -15,7 +15,7 @@ use Rattle.xd_grammar.specs.declared.grammar.Terminal.TheVariants as t
 use Rattle.xd_grammar.specs.Fits.{same}
 use Rattle.xd_parse_trees.specs.Merged.{class_of}
 use Rattle.xd_grammar.proofs.Derive.{same-true}
-use Rattle.xd_parse_trees.specs.Values.{Value, mark, quoted_text, a_tree, names, labels, class, texts, labelled, value_of}
+use Rattle.xd_parse_trees.specs.Values.{Value, mark, a_text, a_tree, names, labels, class, texts, labelled, value_of}
 use Rattle.xd_parse_trees.specs.Reading.{Reads, ReadsListed, ReadsTexts, ReadsExcepted, front_terminal, front_place, front_text, behind, any_text}
 use Rattle.xd_parse_trees.proofs.Rows.{ReadsRow, row_end, row_token, row_token_where, row_opening, row_closed, row_unless, row_part, part_one, part_fit, part_none, front_same, behind_le}
 
@@ -95,7 +95,7 @@ more_texts_reads now to x ws e h r =
     part_fit n.MoreTexts (Token t.Bar ∷ Token t.Text ∷ Part n.MoreTexts ∷ []) now to _ refl (rw e refl)
     (row_token t.Bar (Token t.Text ∷ Part n.MoreTexts ∷ []) now to _
     (row_token_where t.Text (Part n.MoreTexts ∷ []) (behind now) to _
-    (λ k. subst (λ (y : List ℕ). ReadsRow (Token t.Text ∷ Part n.MoreTexts ∷ []) (behind now) to (quoted_text y (front_place (behind now)) ∷ (texts ws ∷ []))) (sym (h k))
+    (λ k. subst (λ (y : List ℕ). ReadsRow (Token t.Text ∷ Part n.MoreTexts ∷ []) (behind now) to (a_text y (front_place (behind now)) ∷ (texts ws ∷ []))) (sym (h k))
     (row_token t.Text (Part n.MoreTexts ∷ []) (behind now) to _ (row_part n.MoreTexts [] (behind (behind now)) to to _ _ r (row_end to))))))
 
 pub texts_more : (from now next later : List Lexeme) (first all : List (List ℕ)) (x : List ℕ) → SoFar n.MoreTexts texts from now first all → same t.Bar (front_terminal now) ≡ true → next ≡ behind now → (front_terminal next ≡ t.Text → x ≡ unescaped (front_text next)) →

@@ -22,10 +22,11 @@ pub data Means : Row → (from to : List Lexeme) → List Value → Type 0 where
       Means row ls rest vs → Means (Opening (terminal_at l) ∷ row) (l ∷ ls) rest (token_value l ∷ vs)
   a_closing : {row : Row} {ls rest : List Lexeme} {vs : List Value} →
       Means row ls rest vs → Means (Closed ∷ row) ls rest vs
-  a_bar : {j : Terminal} {l : Lexeme} {row : Row} {ls rest : List Lexeme} {vs : List Value} → j ≢ terminal_at l →
-      Means row (l ∷ ls) rest vs → Means (Unless j ∷ row) (l ∷ ls) rest vs
-  a_part : {part : Nonterminal} (made : Row) {row : Row} {ls middle rest : List Lexeme} {parts vs : List Value} →
-      IsOneOf made (rules part) → Means made ls middle parts → Means row middle rest vs → Means (Part part ∷ row) ls rest (value_of part parts ∷ vs)
+  a_bar : {j : Terminal} {l : Lexeme} {row : Row} {ls rest : List Lexeme} {vs : List Value} →
+      j ≢ terminal_at l → Means row (l ∷ ls) rest vs → Means (Unless j ∷ row) (l ∷ ls) rest vs
+  a_part : {part : Nonterminal} (made : Row) {row : Row} {ls middle rest : List Lexeme}
+      {parts vs : List Value} → IsOneOf made (rules part) → Means made ls middle parts →
+      Means row middle rest vs → Means (Part part ∷ row) ls rest (value_of part parts ∷ vs)
 
 -- all the tokens spell the nonterminal, which stands for the value
 abbrev pub MeansAll : Nonterminal → List Lexeme → Value → Type 0

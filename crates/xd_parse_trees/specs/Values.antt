@@ -26,7 +26,7 @@ pub data Value : Type 0 where
   mark : Terminal → Place → Value
   word : (characters : List ℕ) → Place → Value
   label : (characters : List ℕ) → Place → Value
-  quoted_text : (characters : List ℕ) → Place → Value
+  a_text : (characters : List ℕ) → Place → Value
   absent : Value
   a_tree : PlacedTree → Value
   trees : List PlacedTree → Value
@@ -47,7 +47,7 @@ pub data Value : Type 0 where
 abbrev pub token_of : Terminal → List ℕ → Place → Value
 token_of t.Word text p = word text p
 token_of t.Label text p = label (take (length text - 1) text) p
-token_of t.Text text p = quoted_text (unescaped text) p
+token_of t.Text text p = a_text (unescaped text) p
 token_of k text p = mark k p
 
 -- a token: a label without its bracket, a text without its quotes and escapes
@@ -100,9 +100,9 @@ with_function x p qs T e P =
 --
 -- A worked text, `a[],()*`. The label at 1:1 is `labels 1:1 [a]` and then `class 1:1 {a}`, and its
 -- content is `a_tree (Empty_at 1:3)`, so the item is an element, at 1:1. No operator follows it:
--- `absent`. The parentheses are `absent` as a group, and `a_tree (Empty_at 1:5)` as an item; the star
--- is a mark, which gives `a_tree (Star_at 1:5 ..)`. That is the one tree of the `more parts`, and the
--- sequence is `a_tree (Seq_at 1:1 ..)` of the element and the star.
+-- `absent`. The parentheses are `absent` as a group, and `a_tree (Empty_at 1:5)` as an item. The
+-- star is a mark, which gives `a_tree (Star_at 1:5 ..)`. That is the one tree of the `more parts`,
+-- and the sequence is `a_tree (Seq_at 1:1 ..)` of the element and the star.
 abbrev pub value_of : Nonterminal → List Value → Value
 -- "type" word "=" alternative definitions
 value_of n.Definitions (mark _ _ ∷ word x q ∷ mark _ _ ∷ a_tree T ∷ definitions P ∷ []) =
@@ -145,7 +145,7 @@ value_of (n.Post _) (a_tree T ∷ mark k _ ∷ []) = a_tree (repeated k T)
 -- word
 value_of (n.Prim _) (word x p ∷ []) = a_tree (named_type x p)
 -- text
-value_of (n.Prim _) (quoted_text s p ∷ []) = a_tree (Words_at p (class_of false (s ∷ [])))
+value_of (n.Prim _) (a_text s p ∷ []) = a_tree (Words_at p (class_of false (s ∷ [])))
 -- "^" text, "^" "(" text { "|" text } ")"
 value_of (n.Prim _) (mark _ p ∷ texts ss ∷ []) = a_tree (Words_at p (class_of true ss))
 -- "^" label "[" content, "^" "(" any word { "|" any word } ")" "[" content
@@ -157,7 +157,7 @@ value_of (n.Prim _) (mark _ _ ∷ a_tree T ∷ []) = a_tree T
 -- class content
 value_of (n.Prim _) (class p c ∷ a_tree T ∷ []) = a_tree (Elem_at p c T)
 -- text
-value_of (n.Excepted _) (quoted_text s _ ∷ []) = texts (s ∷ [])
+value_of (n.Excepted _) (a_text s _ ∷ []) = texts (s ∷ [])
 -- label "[" content
 value_of (n.Excepted _) (label w _ ∷ a_tree T ∷ []) = labelled (w ∷ []) T
 -- "(" text { "|" text } ")"
@@ -165,7 +165,7 @@ value_of (n.Excepted _) (mark _ _ ∷ texts ss ∷ []) = texts ss
 -- "(" any word { "|" any word } ")" "[" content
 value_of (n.Excepted _) (mark _ _ ∷ labelled ws T ∷ []) = labelled ws T
 -- text { "|" text } ")"
-value_of (n.ExceptedList _) (quoted_text s _ ∷ texts ss ∷ mark _ _ ∷ []) = texts (s ∷ ss)
+value_of (n.ExceptedList _) (a_text s _ ∷ texts ss ∷ mark _ _ ∷ []) = texts (s ∷ ss)
 -- any word { "|" any word } ")" "[" content
 value_of (n.ExceptedList _) (names vs ∷ names ws ∷ mark _ _ ∷ mark _ _ ∷ a_tree T ∷ []) =
     labelled (vs ++ ws) T
@@ -202,7 +202,7 @@ value_of n.MoreNames (mark _ _ ∷ names vs ∷ names ws ∷ []) = names (vs ++ 
 -- nothing more
 value_of n.MoreTexts [] = texts []
 -- "|" text and more texts
-value_of n.MoreTexts (mark _ _ ∷ quoted_text s _ ∷ texts ss ∷ []) = texts (s ∷ ss)
+value_of n.MoreTexts (mark _ _ ∷ a_text s _ ∷ texts ss ∷ []) = texts (s ∷ ss)
 -- word
 value_of n.AnyWord (word x _ ∷ []) = names (x ∷ [])
 -- "type", "fun", "val", "as", "match", "with"
@@ -214,7 +214,7 @@ value_of n.MoreItems [] = expressions []
 -- "," part and more items
 value_of n.MoreItems (mark _ _ ∷ an_expression e ∷ expressions es ∷ []) = expressions (e ∷ es)
 -- text
-value_of n.Item (quoted_text s p ∷ []) = an_expression (Quoted p s)
+value_of n.Item (a_text s p ∷ []) = an_expression (Quoted p s)
 -- word { parentheses }
 value_of n.Item (word x p ∷ expressions es ∷ []) = an_expression (word_expression x p es)
 -- label "[" expression content

@@ -7,7 +7,7 @@ use Rattle.xd_meaning.specs.Breach.{Lined}
 use Rattle.xd_parse.proofs.Sure.{texts_mean_one_thing}
 use Rattle.xd_proof.specs.Lines.{SpellsNumber}
 use Rattle.xd_proof.specs.Parts.{SpellParts}
-use Rattle.xd_proof.specs.Form.{Block, goal_list, types_from, first_format, second_format, goals_from, AreNamed, NamesTypes, NameTypes, AreProof, IsProofText}
+use Rattle.xd_proof.specs.Form.{GoalBlock, goal_list, types_from, first_format, second_format, goals_from, AreNamed, NamesTypes, NameTypes, AreProof, IsProofText}
 use Rattle.xd_proof.specs.TypeTexts.{SpellsType}
 use Rattle.xd_proof.specs.Course.{at_count, at_end, along}
 use Rattle.xd_proof.proofs.CourseLemmas.{list_follows}
@@ -18,7 +18,7 @@ pub type_one : (known : List (List ℕ)) (b : List ℕ) (T U : Tree) → SpellsT
 type_one known b T U s t = sym s.same ∙ ap unplaced (texts_mean_one_thing.types b s.placed t.placed (s.text).spelled (t.text).spelled) ∙ t.same
 
 module _ {A : Type 0} where
-  lists_one : (bs cs : List (Block A)) → goal_list bs ≡ goal_list cs → bs ≡ cs
+  lists_one : (bs cs : List (GoalBlock A)) → goal_list bs ≡ goal_list cs → bs ≡ cs
   lists_one [] [] e = refl
   lists_one [] (c ∷ cs) e = absurd (let z : 0 ≡ length (c ∷ cs) = cc in omega (arith, z))
   lists_one (b ∷ bs) [] e = absurd (let z : length (b ∷ bs) ≡ 0 = cc in omega (arith, z))
@@ -28,7 +28,7 @@ module _ {A : Type 0} where
       let z : Some (at_end (b ∷ bs)) ≡ Some (at_end (c ∷ cs)) = sym p ∙ ap (λ l. along (Some at_count) l) e ∙ q in
       cc
 
-  types_one : (k : ℕ) (Ts Us : List Tree) (bs cs : List (Block A)) → types_from k Ts ++ goal_list bs ≡ types_from k Us ++ goal_list cs → (Ts ≡ Us) × (goal_list bs ≡ goal_list cs)
+  types_one : (k : ℕ) (Ts Us : List Tree) (bs cs : List (GoalBlock A)) → types_from k Ts ++ goal_list bs ≡ types_from k Us ++ goal_list cs → (Ts ≡ Us) × (goal_list bs ≡ goal_list cs)
   types_one k [] [] bs cs e = (refl, e)
   types_one k [] (U ∷ Us) bs cs e = absurd (cc)
   types_one k (T ∷ Ts) [] bs cs e = absurd (cc)
@@ -48,14 +48,14 @@ named_one Ts (n ∷ ns) [] Vs p q = absurd p
 named_one Ts (n ∷ ns) (U ∷ Us) [] p q = absurd q
 named_one Ts (n ∷ ns) (U ∷ Us) (V ∷ Vs) p q = ap (λ T. T ∷ Us) (some_one (numbered Ts n) U V p.0 q.0) ∙ ap (λ l. V ∷ l) (named_one Ts ns Us Vs p.1 q.1)
 
-block_one : (Ts : List Tree) (b : Block ℕ) (c d : Block Tree) → NamesTypes Ts b c → NamesTypes Ts b d → c ≡ d
+block_one : (Ts : List Tree) (b : GoalBlock ℕ) (c d : GoalBlock Tree) → NamesTypes Ts b c → NamesTypes Ts b d → c ≡ d
 block_one Ts b c d p q =
-    ap (λ T. let x : Block Tree = record { left = T; rights = c.rights; empty_right = c.empty_right; cases = c.cases } in x) (some_one (numbered Ts b.left) c.left d.left p.left q.left)
-    ∙ ap (λ Us. let x : Block Tree = record { left = d.left; rights = Us; empty_right = c.empty_right; cases = c.cases } in x) (named_one Ts b.rights c.rights d.rights p.rights q.rights)
-    ∙ ap (λ o. let x : Block Tree = record { left = d.left; rights = d.rights; empty_right = o; cases = c.cases } in x) (sym p.empty_right ∙ q.empty_right)
-    ∙ ap (λ cs. let x : Block Tree = record { left = d.left; rights = d.rights; empty_right = d.empty_right; cases = cs } in x) (sym p.cases ∙ q.cases)
+    ap (λ T. let x : GoalBlock Tree = record { left = T; rights = c.rights; empty_right = c.empty_right; cases = c.cases } in x) (some_one (numbered Ts b.left) c.left d.left p.left q.left)
+    ∙ ap (λ Us. let x : GoalBlock Tree = record { left = d.left; rights = Us; empty_right = c.empty_right; cases = c.cases } in x) (named_one Ts b.rights c.rights d.rights p.rights q.rights)
+    ∙ ap (λ o. let x : GoalBlock Tree = record { left = d.left; rights = d.rights; empty_right = o; cases = c.cases } in x) (sym p.empty_right ∙ q.empty_right)
+    ∙ ap (λ cs. let x : GoalBlock Tree = record { left = d.left; rights = d.rights; empty_right = d.empty_right; cases = cs } in x) (sym p.cases ∙ q.cases)
 
-blocks_one : (Ts : List Tree) (bs : List (Block ℕ)) (cs ds : List (Block Tree)) → NameTypes Ts bs cs → NameTypes Ts bs ds → cs ≡ ds
+blocks_one : (Ts : List Tree) (bs : List (GoalBlock ℕ)) (cs ds : List (GoalBlock Tree)) → NameTypes Ts bs cs → NameTypes Ts bs ds → cs ≡ ds
 blocks_one Ts [] [] [] p q = refl
 blocks_one Ts [] [] (d ∷ ds) p q = absurd q
 blocks_one Ts [] (c ∷ cs) ds p q = absurd p
@@ -64,7 +64,7 @@ blocks_one Ts (b ∷ bs) (c ∷ cs) [] p q = absurd q
 blocks_one Ts (b ∷ bs) (c ∷ cs) (d ∷ ds) p q = ap (λ x. x ∷ cs) (block_one Ts b c d p.0 q.0) ∙ ap (λ l. d ∷ l) (blocks_one Ts bs cs ds p.1 q.1)
 
 module _ (known : List (List ℕ)) where
-  apart : (ls : List (List ℕ)) (bs : List (Block Tree)) (Ts : List Tree) (cs : List (Block ℕ)) →
+  apart : (ls : List (List ℕ)) (bs : List (GoalBlock Tree)) (Ts : List Tree) (cs : List (GoalBlock ℕ)) →
       SpellParts (SpellsType known) (SpellsType known) ls (first_format bs) → SpellParts (SpellsType known) SpellsNumber ls (second_format Ts cs) → ⊥
   apart [] bs Ts cs s t = s
   apart (l ∷ ls) bs Ts cs s t = let z : 49 ≡ 50 = ap (λ x. get_or x 12 0) (sym s.0 ∙ t.0) in omega (arith, z)

@@ -22,7 +22,7 @@ use Rattle.xd_lex.specs.Spelled.{unescaped}
 use Rattle.xd_lex.proofs.Escapes.{quoted-escaped, unescaped-escaped}
 use Rattle.xd_syntax.specs.TypeText.{quoted}
 use Rattle.xd_proof.specs.Lines.{space, spaced, IsFreeOf, IsNumber, SpellsNumber}
-use Rattle.xd_proof.specs.Parts.{Part, first_title, second_title, type_count, type_part, goal_count, goal_part, left_part, right_part, empty_part, case_part, end_part, atom_word, IsAtom, tree_words, HasNumbers, case_words, SpellsCase, Follows, SpellsTypePart, SpellsPart, SpellParts}
+use Rattle.xd_proof.specs.Parts.{ProofLine, first_title, second_title, type_count, type_part, goal_count, goal_part, left_part, right_part, empty_part, case_part, end_part, atom_word, IsAtom, tree_words, HasNumbers, case_words, SpellsCase, Follows, SpellsTypePart, SpellsPart, SpellParts}
 use Rattle.xd_proof.proofs.LineLemmas.{same_front, same_words}
 
 fits : (n : ℕ) → IsNumber n → n < 2 ^ 64
@@ -207,7 +207,7 @@ abbrev letters : List ℕ → ℕ × ℕ
 letters l = (get_or l 0 0, get_or l 4 0)
 
 module _ {A : Type 0} where
-  abbrev letters_of : Part A → ℕ × ℕ
+  abbrev letters_of : ProofLine A → ℕ × ℕ
   letters_of first_title = (120, 101)
   letters_of second_title = (120, 101)
   letters_of (type_count n) = (116, 115)
@@ -221,7 +221,7 @@ module _ {A : Type 0} where
   letters_of end_part = (101, 0)
 
 module _ {A : Type 0} (R : List ℕ → Tree → Type 0) (S : List ℕ → A → Type 0) where
-  letters_are : (l : List ℕ) (p : Part A) → SpellsPart R S l p → letters l ≡ letters_of p
+  letters_are : (l : List ℕ) (p : ProofLine A) → SpellsPart R S l p → letters l ≡ letters_of p
   letters_are l first_title s = ap letters s
   letters_are l second_title s = ap letters s
   letters_are l (type_count n) s = ap letters s.whole
@@ -239,7 +239,7 @@ module _ {A : Type 0} (R : List ℕ → Tree → Type 0) (S : List ℕ → A →
   titles_apart : (l : List ℕ) → l ≡ codes "xduce-proof 1" → l ≡ codes "xduce-proof 2" → ⊥
   titles_apart l e f = let z : 49 ≡ 50 = ap (λ x. get_or x 12 0) (sym e ∙ f) in omega (arith, z)
 
-  by_letters : (p q : Part A) → letters_of p ≡ letters_of q → (l : List ℕ) → SpellsPart R S l p → SpellsPart R S l q → p ≡ q
+  by_letters : (p q : ProofLine A) → letters_of p ≡ letters_of q → (l : List ℕ) → SpellsPart R S l p → SpellsPart R S l q → p ≡ q
   by_letters first_title first_title e l s t = refl
   by_letters first_title second_title e l s t = absurd (titles_apart l s t)
   by_letters second_title first_title e l s t = absurd (titles_apart l t s)
@@ -257,10 +257,10 @@ module _ {A : Type 0} (R : List ℕ → Tree → Type 0) (S : List ℕ → A →
   by_letters end_part end_part e l s t = refl
   by_letters _ _ e l s t = absurd (omega (arith, ap (λ (x : ℕ × ℕ). x.0) e, ap (λ (x : ℕ × ℕ). x.1) e))
 
-  pub part_one : (l : List ℕ) (p q : Part A) → SpellsPart R S l p → SpellsPart R S l q → p ≡ q
+  pub part_one : (l : List ℕ) (p q : ProofLine A) → SpellsPart R S l p → SpellsPart R S l q → p ≡ q
   part_one l p q s t = by_letters p q (sym (letters_are R S l p s) ∙ letters_are R S l q t) l s t
 
-  pub parts_one : (ls : List (List ℕ)) (ps qs : List (Part A)) → SpellParts R S ls ps → SpellParts R S ls qs → ps ≡ qs
+  pub parts_one : (ls : List (List ℕ)) (ps qs : List (ProofLine A)) → SpellParts R S ls ps → SpellParts R S ls qs → ps ≡ qs
   parts_one [] [] [] s t = refl
   parts_one [] [] (q ∷ qs) s t = absurd t
   parts_one [] (p ∷ ps) qs s t = absurd s

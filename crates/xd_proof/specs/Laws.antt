@@ -5,19 +5,19 @@ use Rattle.xd_rules.specs.Rules.{Case}
 use Rattle.xd_meaning.specs.Breach.{Lined}
 use Rattle.xd_proof.specs.Lines.{IsCut, SpellsNumber}
 use Rattle.xd_proof.specs.LineWords.{AreWords}
-use Rattle.xd_proof.specs.Parts.{Part, SpellsCase, SpellsPart, SpellParts}
-use Rattle.xd_proof.specs.Form.{Block, goal_list, IsProofText, CanBegin, IsFirstBadLine}
+use Rattle.xd_proof.specs.Parts.{ProofLine, SpellsCase, SpellsPart, SpellParts}
+use Rattle.xd_proof.specs.Form.{GoalBlock, goal_list, IsProofText, CanBegin, IsFirstBadLine}
 use Rattle.xd_proof.specs.TypeTexts.{SpellsType}
 use Rattle.xd_proof.specs.Course.{Course, at_count, at_end, along}
 
 -- The course of lines follows exactly the lists of goals, and has these when they end.
 abbrev pub CourseReads : Type 0 → Type 0
-CourseReads A = (parts : List (Part A)) (blocks : List (Block A)) → (along (Some at_count) parts ≡ Some (at_end blocks)) ↔ ((parts ≡ goal_list blocks) × (0 < length blocks))
+CourseReads A = (parts : List (ProofLine A)) (blocks : List (GoalBlock A)) → (along (Some at_count) parts ≡ Some (at_end blocks)) ↔ ((parts ≡ goal_list blocks) × (0 < length blocks))
 
 -- It stands at a line exactly where a list of goals goes on from there (there is some type).
 abbrev pub CourseGoesOn : Type 0 → Type 0
-CourseGoesOn A = A → (parts : List (Part A)) → ((c : Course A) × (along (Some at_count) parts ≡ Some c))
-    ↔ ((more : List (Part A)) × (blocks : List (Block A)) × (0 < length blocks) × (parts ++ more ≡ goal_list blocks))
+CourseGoesOn A = A → (parts : List (ProofLine A)) → ((c : Course A) × (along (Some at_count) parts ≡ Some c))
+    ↔ ((more : List (ProofLine A)) × (blocks : List (GoalBlock A)) × (0 < length blocks) × (parts ++ more ≡ goal_list blocks))
 
 -- A text is cut into lines in one way.
 abbrev pub CutsAreOne : Type 0
@@ -37,7 +37,7 @@ FirstBadLineIsOne = (known : List (List ℕ)) (bytes : List ℕ) (n m : ℕ) →
 abbrev pub FirstFormatBegins : Type 0
 FirstFormatBegins = (known : List (List ℕ)) (bytes : List ℕ) (T : Tree) → SpellsType known bytes T → (lines : List (List ℕ)) →
     CanBegin (SpellsType known) (codes "xduce-proof 1" ∷ lines)
-    ↔ ((parts : List (Part Tree)) × (c : Course Tree) × SpellParts (SpellsType known) (SpellsType known) lines parts × (along (Some at_count) parts ≡ Some c))
+    ↔ ((parts : List (ProofLine Tree)) × (c : Course Tree) × SpellParts (SpellsType known) (SpellsType known) lines parts × (along (Some at_count) parts ≡ Some c))
 
 -- Any other first line but that of the second format begins none.
 abbrev pub TitlesBegin : Type 0
@@ -58,5 +58,5 @@ ProofTextsAreOne = (known : List (List ℕ)) (bytes : List ℕ) (goals others : 
 
 -- A line spells one part at most, in the first format and in the second.
 pub record PartsAreOne : Type 0 where
-  pub first : (known : List (List ℕ)) (line : List ℕ) (p q : Part Tree) → SpellsPart (SpellsType known) (SpellsType known) line p → SpellsPart (SpellsType known) (SpellsType known) line q → p ≡ q
-  pub second : (known : List (List ℕ)) (line : List ℕ) (p q : Part ℕ) → SpellsPart (SpellsType known) SpellsNumber line p → SpellsPart (SpellsType known) SpellsNumber line q → p ≡ q
+  pub first : (known : List (List ℕ)) (line : List ℕ) (p q : ProofLine Tree) → SpellsPart (SpellsType known) (SpellsType known) line p → SpellsPart (SpellsType known) (SpellsType known) line q → p ≡ q
+  pub second : (known : List (List ℕ)) (line : List ℕ) (p q : ProofLine ℕ) → SpellsPart (SpellsType known) SpellsNumber line p → SpellsPart (SpellsType known) SpellsNumber line q → p ≡ q

@@ -3,11 +3,12 @@ use Rattle.std.specs.Prelude.{◌≡◌, ℕ, ◌<◌, ◌^◌, List, [], ◌∷
 use Rattle.std.specs.List.{AllByRecursion}
 use Rattle.std.specs.Str.{byte}
 use Rattle.std.specs.Fmt.{decimal}
-use Rattle.xd_proof.specs.declared.numbers.TheConstants.{MOST_DIGITS}
 
+-- what ends a line
 abbrev pub line_feed : ℕ
 line_feed = byte "\n"
 
+-- what stands between words
 abbrev pub space : ℕ
 space = byte " "
 
@@ -35,13 +36,14 @@ spaced (w ∷ (v ∷ vs)) = w ++ space ∷ spaced (v ∷ vs)
 
 -- how many digits a number has at most
 abbrev pub most_digits : ℕ
-most_digits = MOST_DIGITS
+most_digits = 18
 
 -- a number, from 1: its decimal digits without a zero before them
 pub record IsNumber (n : ℕ) : Type 0 where
   pub least : 0 < n
   pub most : n < 10 ^ most_digits
 
+-- the bytes are the digits of the number
 pub record SpellsNumber (bytes : List ℕ) (n : ℕ) : Type 0 where
   pub digits : bytes ≡ decimal n
   pub number : IsNumber n

@@ -12,18 +12,18 @@ use Rattle.xd_proof.specs.Lines.{spaced, space, IsNumber, SpellsNumber}
 
 -- A line of a proof text. `A` is what stands for a type in a goal: the type itself in the first
 -- format, its number in the second.
-pub data Part (A : Type 0) : Type 0 where
-  first_title : Part A
-  second_title : Part A
-  type_count : (count : ℕ) → Part A
-  type_part : (number : ℕ) (type_there : Tree) → Part A
-  goal_count : (count : ℕ) → Part A
-  goal_part : (number : ℕ) → Part A
-  left_part : (left : A) → Part A
-  right_part : (right : A) → Part A
-  empty_part : (number : ℕ) → Part A
-  case_part : (there : Case) → Part A
-  end_part : Part A
+pub data ProofLine (A : Type 0) : Type 0 where
+  first_title : ProofLine A
+  second_title : ProofLine A
+  type_count : (count : ℕ) → ProofLine A
+  type_part : (number : ℕ) (type_there : Tree) → ProofLine A
+  goal_count : (count : ℕ) → ProofLine A
+  goal_part : (number : ℕ) → ProofLine A
+  left_part : (left : A) → ProofLine A
+  right_part : (right : A) → ProofLine A
+  empty_part : (number : ℕ) → ProofLine A
+  case_part : (there : Case) → ProofLine A
+  end_part : ProofLine A
 
 -- the spelling of an atom: a label is its own, and a text stands in quotes, where it may have
 -- spaces in it
@@ -45,14 +45,17 @@ tree_words (settles_content n) = codes "c" ∷ decimal n ∷ []
 tree_words (settles_rest n) = codes "r" ∷ decimal n ∷ []
 tree_words (split_on n A B) = codes "?" ∷ decimal n ∷ tree_words A ++ tree_words B
 
+-- its numbers can be written
 abbrev pub HasNumbers : ChoiceTree → Type 0
 HasNumbers (settles_content n) = IsNumber n
 HasNumbers (settles_rest n) = IsNumber n
 HasNumbers (split_on n A B) = IsNumber n × HasNumbers A × HasNumbers B
 
+-- the words of a case
 abbrev pub case_words : Case → List (List ℕ)
 case_words c = codes "case" ∷ decimal c.head ∷ atom_word c.atom ∷ tree_words c.choice
 
+-- the bytes spell the case
 pub record SpellsCase (bytes : List ℕ) (c : Case) : Type 0 where
   pub words : bytes ≡ spaced (case_words c)
   pub head : IsNumber c.head
@@ -60,7 +63,8 @@ pub record SpellsCase (bytes : List ℕ) (c : Case) : Type 0 where
   pub numbers : HasNumbers c.choice
 
 -- a word, and after one space what R says
-pub record Follows {A : Type 0} (word : List ℕ) (R : List ℕ → A → Type 0) (bytes : List ℕ) (x : A) : Type 0 where
+pub record Follows {A : Type 0} (word : List ℕ) (R : List ℕ → A → Type 0)
+    (bytes : List ℕ) (x : A) : Type 0 where
   pub behind : List ℕ
   pub whole : bytes ≡ word ++ space ∷ behind
   pub reads : R behind x
@@ -73,7 +77,7 @@ pub record SpellsTypePart (R : List ℕ → Tree → Type 0) (bytes : List ℕ) 
 
 module _ {A : Type 0} (TypeReads : List ℕ → Tree → Type 0) (Reads : List ℕ → A → Type 0) where
   -- The bytes spell the line, where these say how types and what stands for them are spelled.
-  abbrev pub SpellsPart : List ℕ → Part A → Type 0
+  abbrev pub SpellsPart : List ℕ → ProofLine A → Type 0
   SpellsPart bytes first_title = bytes ≡ codes "xduce-proof 1"
   SpellsPart bytes second_title = bytes ≡ codes "xduce-proof 2"
   SpellsPart bytes (type_count m) = Follows (codes "types") SpellsNumber bytes m
@@ -87,8 +91,7 @@ module _ {A : Type 0} (TypeReads : List ℕ → Tree → Type 0) (Reads : List �
   SpellsPart bytes end_part = bytes ≡ codes "end"
 
   -- line by line
-  abbrev pub SpellParts : List (List ℕ) → List (Part A) → Type 0
+  abbrev pub SpellParts : List (List ℕ) → List (ProofLine A) → Type 0
   SpellParts [] [] = Unit {0}
-  SpellParts [] (p ∷ ps) = ⊥
-  SpellParts (l ∷ ls) [] = ⊥
   SpellParts (l ∷ ls) (p ∷ ps) = SpellsPart l p × SpellParts ls ps
+  SpellParts _ _ = ⊥

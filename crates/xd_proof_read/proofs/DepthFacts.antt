@@ -21,8 +21,8 @@ use Rattle.xd_parse_trees.proofs.Depth.{AnyWithin}
 use Rattle.xd_rules.specs.Rules.{numbered}
 use Rattle.xd_meaning.specs.Breach.{Lined}
 use Rattle.xd_proof.specs.Lines.{SpellsNumber}
-use Rattle.xd_proof.specs.Parts.{Part, type_part, left_part, right_part, SpellsPart, SpellParts}
-use Rattle.xd_proof.specs.Form.{Block, block_parts, blocks_from, types_from, goals_from, block_length, AreNamed, NameTypes, AreProof, IsProofText}
+use Rattle.xd_proof.specs.Parts.{ProofLine, type_part, left_part, right_part, SpellsPart, SpellParts}
+use Rattle.xd_proof.specs.Form.{GoalBlock, block_parts, blocks_from, types_from, goals_from, block_length, AreNamed, NameTypes, AreProof, IsProofText}
 use Rattle.xd_proof.specs.TypeTexts.{SpellsType}
 use Rattle.xd_proof.specs.declared.proof.ProofGoal.{ProofGoal}
 use Rattle.xd_proof.specs.Goals.{AreGoalsAt}
@@ -39,24 +39,24 @@ text_shallow known bytes T s =
     subst Shallow s.same (let a = h.1 in omega arith)
 
 -- ---- the types of goals
-record ShallowBlock (b : Block Tree) : Type 0 where
+record ShallowBlock (b : GoalBlock Tree) : Type 0 where
   left : Shallow b.left
   rights : AllByRecursion Shallow b.rights
 
-abbrev ShallowPart : {A : Type 0} → (A → Type 0) → Part A → Type 0
+abbrev ShallowPart : {A : Type 0} → (A → Type 0) → ProofLine A → Type 0
 ShallowPart P (left_part x) = P x
 ShallowPart P (right_part x) = P x
 ShallowPart P (type_part n T) = Shallow T
 ShallowPart P _ = Unit {0}
 
 module _ {A : Type 0} (known : List (List ℕ)) (S : List ℕ → A → Type 0) (P : A → Type 0) (f : (bytes : List ℕ) (x : A) → S bytes x → P x) where
-  part_shallow : (l : List ℕ) (p : Part A) → SpellsPart (SpellsType known) S l p → ShallowPart P p
+  part_shallow : (l : List ℕ) (p : ProofLine A) → SpellsPart (SpellsType known) S l p → ShallowPart P p
   part_shallow l (left_part x) s = f s.behind x s.reads
   part_shallow l (right_part x) s = f s.behind x s.reads
   part_shallow l (type_part n T) s = let r = (s.reads).reads in text_shallow known r.behind T r.reads
   part_shallow l _ s = tt
 
-  parts_shallow : (ls : List (List ℕ)) (ps : List (Part A)) → SpellParts (SpellsType known) S ls ps → AllByRecursion (ShallowPart P) ps
+  parts_shallow : (ls : List (List ℕ)) (ps : List (ProofLine A)) → SpellParts (SpellsType known) S ls ps → AllByRecursion (ShallowPart P) ps
   parts_shallow [] [] s = tt
   parts_shallow [] (p ∷ ps) s = absurd s
   parts_shallow (l ∷ ls) [] s = absurd s
@@ -66,7 +66,7 @@ rights_shallow : (Us : List Tree) → AllByRecursion (ShallowPart Shallow) (map 
 rights_shallow [] a = tt
 rights_shallow (U ∷ Us) a = (a.0, rights_shallow Us a.1)
 
-blocks_shallow : (k : ℕ) (bs : List (Block Tree)) (rest : List (Part Tree)) → AllByRecursion (ShallowPart Shallow) (blocks_from k bs ++ rest) → AllByRecursion ShallowBlock bs
+blocks_shallow : (k : ℕ) (bs : List (GoalBlock Tree)) (rest : List (ProofLine Tree)) → AllByRecursion (ShallowPart Shallow) (blocks_from k bs ++ rest) → AllByRecursion ShallowBlock bs
 blocks_shallow k [] rest a = tt
 blocks_shallow k (b ∷ bs) rest a =
     let r = all_parts (ShallowPart Shallow) (blocks_from k (b ∷ bs)) rest a in
@@ -74,11 +74,11 @@ blocks_shallow k (b ∷ bs) rest a =
     let m = all_parts (ShallowPart Shallow) (map right_part b.rights) _ (((q.0).1).1) in
     (record { left = ((q.0).1).0; rights = rights_shallow b.rights m.0 }, blocks_shallow (k + 1) bs [] (subst (AllByRecursion (ShallowPart Shallow)) (sym (nil (blocks_from (k + 1) bs))) q.1))
   where
-    nil : (xs : List (Part Tree)) → xs ++ [] ≡ xs
+    nil : (xs : List (ProofLine Tree)) → xs ++ [] ≡ xs
     nil [] = refl
     nil (x ∷ xs) = ap (λ l. x ∷ l) (nil xs)
 
-types_shallow : (k : ℕ) (Ts : List Tree) (rest : List (Part ℕ)) → AllByRecursion (ShallowPart (λ n. Unit {0})) (types_from k Ts ++ rest) → AllByRecursion Shallow Ts
+types_shallow : (k : ℕ) (Ts : List Tree) (rest : List (ProofLine ℕ)) → AllByRecursion (ShallowPart (λ n. Unit {0})) (types_from k Ts ++ rest) → AllByRecursion Shallow Ts
 types_shallow k [] rest a = tt
 types_shallow k (T ∷ Ts) rest a = (a.0, types_shallow (k + 1) Ts rest a.1)
 
@@ -94,7 +94,7 @@ named_shallow Ts [] (U ∷ Us) a n = absurd n
 named_shallow Ts (m ∷ ns) [] a n = absurd n
 named_shallow Ts (m ∷ ns) (U ∷ Us) a n = (numbered_shallow Ts m U a n.0, named_shallow Ts ns Us a n.1)
 
-meant_shallow : (Ts : List Tree) (bs : List (Block ℕ)) (cs : List (Block Tree)) → AllByRecursion Shallow Ts → NameTypes Ts bs cs → AllByRecursion ShallowBlock cs
+meant_shallow : (Ts : List Tree) (bs : List (GoalBlock ℕ)) (cs : List (GoalBlock Tree)) → AllByRecursion Shallow Ts → NameTypes Ts bs cs → AllByRecursion ShallowBlock cs
 meant_shallow Ts [] [] a n = tt
 meant_shallow Ts [] (c ∷ cs) a n = absurd n
 meant_shallow Ts (b ∷ bs) [] a n = absurd n
@@ -106,7 +106,7 @@ ids_shallow rows [] (U ∷ Us) z a = tt
 ids_shallow rows (i ∷ ids) [] z a = absurd z
 ids_shallow rows (i ∷ ids) (U ∷ Us) z a = (subst Shallow (sym (z.0).same) a.0, ids_shallow rows ids Us z.1 a.1)
 
-made_shallow : (rows : List Row) (n : ℕ) (bs : List (Block Tree)) (made : List ProofGoal) → AreGoalsAt rows made (goals_from n bs) → AllByRecursion ShallowBlock bs → AllByRecursion (IsShallowGoal rows) made
+made_shallow : (rows : List Row) (n : ℕ) (bs : List (GoalBlock Tree)) (made : List ProofGoal) → AreGoalsAt rows made (goals_from n bs) → AllByRecursion ShallowBlock bs → AllByRecursion (IsShallowGoal rows) made
 made_shallow rows n [] [] z a = tt
 made_shallow rows n [] (g ∷ gs) z a = absurd z
 made_shallow rows n (b ∷ bs) [] z a = tt

@@ -14,7 +14,7 @@ use Rattle.xd_syntax.specs.declared.types.TypeId.{TypeId}
 use Rattle.xd_meaning.specs.Breach.{Lined}
 use Rattle.xd_proof.specs.Lines.{SpellsNumber, IsCut}
 use Rattle.xd_proof.specs.Parts.{Follows, SpellParts}
-use Rattle.xd_proof.specs.Form.{Block, goal_list, types_from, goals_from, AreProof, IsProofText, IsFirstBadLine}
+use Rattle.xd_proof.specs.Form.{GoalBlock, goal_list, types_from, goals_from, AreProof, IsProofText, IsFirstBadLine}
 use Rattle.xd_proof.proofs.OneText.{type_one}
 use Rattle.xd_proof.specs.declared.proof.ProofGoal.{ProofGoal}
 use Rattle.xd_proof.specs.Goals.{AreGoalsAt}
@@ -145,7 +145,7 @@ module _ (p : ProgramTable) (xs : List (Bor (List ℕ))) (line : List ℕ) (m ma
         (subst (λ (S : List ℕ → Tree → Type 0). IsFirstBad (GoalLines (SpellsTypeOf p) S) goals b.0) names_are (subst (λ (R : List ℕ → Tree → Type 0). IsFirstBad (GoalLines R (Names q (Numbered ids))) goals b.0) (spelled_kept p q g) b.2)))) r t
 
     pub second_reads : {A : Type 0} (rows : List Row) (r : Result (List ProofGoal) A) →
-        IfOk r (λ proof. (bs : List (Block Tree)) × SpellParts (SpellsTypeOf q) (Names q (Numbered ids)) goals (goal_list bs) × AreGoalsAt rows proof (goals_from (m + 2 + 2) bs)) →
+        IfOk r (λ proof. (bs : List (GoalBlock Tree)) × SpellParts (SpellsTypeOf q) (Names q (Numbered ids)) goals (goal_list bs) × AreGoalsAt rows proof (goals_from (m + 2 + 2) bs)) →
         IfOk r (λ proof. (gs : List Lined) × AreProof (SpellsTypeOf p) (codes "xduce-proof 2" ∷ texts xs) gs × AreGoalsAt rows proof gs)
     second_reads rows (Err e) t = tt
     second_reads rows (Ok proof) (bs, t, made) =

@@ -8,8 +8,8 @@ use Rattle.xd_syntax.specs.Tree.{Tree}
 use Rattle.xd_syntax.specs.Table.{Row}
 use Rattle.xd_syntax.specs.Kept.{ProgramTable}
 use Rattle.xd_syntax.specs.SoundTables.{IsTypeAt}
-use Rattle.xd_proof.specs.Parts.{Part, SpellsPart, SpellParts}
-use Rattle.xd_proof.specs.Form.{Block, block_length, goal_list, goals_from}
+use Rattle.xd_proof.specs.Parts.{ProofLine, SpellsPart, SpellParts}
+use Rattle.xd_proof.specs.Form.{GoalBlock, block_length, goal_list, goals_from}
 use Rattle.xd_proof.specs.Course.{Course, at_count, at_end, next, and_on, along}
 use Rattle.xd_proof.proofs.CourseLemmas.{along_joined, course_reads, list_follows}
 use Rattle.xd_proof.proofs.BeginLemmas.{spell_joined, front_course, course_list}
@@ -74,23 +74,23 @@ bad_behind L M front ls k n b e f =
 -- ---- lists of goals
 module _ {A : Type 0} (R : List ℕ → Tree → Type 0) (S : List ℕ → A → Type 0) where
   -- what the last line spells
-  pub spell_last : (ls : List (List ℕ)) (line : List ℕ) (ps : List (Part A)) → SpellParts R S (ls ++ line ∷ []) ps →
-      (front : List (Part A)) × (p : Part A) × SpellParts R S ls front × SpellsPart R S line p × (ps ≡ front ++ p ∷ [])
+  pub spell_last : (ls : List (List ℕ)) (line : List ℕ) (ps : List (ProofLine A)) → SpellParts R S (ls ++ line ∷ []) ps →
+      (front : List (ProofLine A)) × (p : ProofLine A) × SpellParts R S ls front × SpellsPart R S line p × (ps ≡ front ++ p ∷ [])
   spell_last [] line [] s = absurd s
   spell_last [] line (p ∷ []) s = ([], p, tt, s.0, refl)
   spell_last [] line (p ∷ (q ∷ ps)) s = absurd s.1
   spell_last (l ∷ ls) line [] s = absurd s
   spell_last (l ∷ ls) line (p ∷ ps) s = let r = spell_last ls line ps s.1 in (p ∷ r.0, r.1, (s.0, r.2), r.3, ap (λ x. p ∷ x) r.4)
 
-along_more : (ps : List (Part Tree)) (c : Course Tree) (p : Part Tree) → along (Some at_count) ps ≡ Some c → along (Some at_count) (ps ++ p ∷ []) ≡ next c p
+along_more : (ps : List (ProofLine Tree)) (c : Course Tree) (p : ProofLine Tree) → along (Some at_count) ps ≡ Some c → along (Some at_count) (ps ++ p ∷ []) ≡ next c p
 along_more ps c p e = along_joined (Some at_count) ps (p ∷ []) ∙ ap (λ o. and_on (λ d. next d p) o) e
 
 module _ (R S : List ℕ → Tree → Type 0) (can : CanName R S) where
-  goals_go_on : (ls : List (List ℕ)) (ps : List (Part Tree)) (c : Course Tree) → SpellParts R S ls ps → along (Some at_count) ps ≡ Some c → CanGoOn (GoalLines R S) ls
+  goals_go_on : (ls : List (List ℕ)) (ps : List (ProofLine Tree)) (c : Course Tree) → SpellParts R S ls ps → along (Some at_count) ps ≡ Some c → CanGoOn (GoalLines R S) ls
   goals_go_on ls ps c s e = let r = course_list R S can.bytes can.there can.reads ls ps c s e in (r.0, (r.1, r.2))
 
-  goals_stop : (ls : List (List ℕ)) (ps : List (Part Tree)) (c : Course Tree) (line : List ℕ) → SpellParts R S ls ps → along (Some at_count) ps ≡ Some c →
-      ((p : Part Tree) (d : Course Tree) → SpellsPart R S line p → next c p ≡ Some d → ⊥) → CanGoOn (GoalLines R S) (ls ++ line ∷ []) → ⊥
+  goals_stop : (ls : List (List ℕ)) (ps : List (ProofLine Tree)) (c : Course Tree) (line : List ℕ) → SpellParts R S ls ps → along (Some at_count) ps ≡ Some c →
+      ((p : ProofLine Tree) (d : Course Tree) → SpellsPart R S line p → next c p ≡ Some d → ⊥) → CanGoOn (GoalLines R S) (ls ++ line ∷ []) → ⊥
   goals_stop ls ps c line s e never w =
       let f = front_course R S (ls ++ line ∷ []) w.0 (w.1).0 (w.1).1 in
       let h = spell_last R S ls line f.0 f.2 in
@@ -104,7 +104,7 @@ module _ (R S : List ℕ → Tree → Type 0) (can : CanName R S) where
 
 -- what was read of these lines has come to this stage
 pub record IsUnderWay (R S : List ℕ → Tree → Type 0) (types : List Row) (first : ℕ) (lines : List (List ℕ)) (stage : Stage) : Type 0 where
-  pub parts : List (Part Tree)
+  pub parts : List (ProofLine Tree)
   pub course : Course Tree
   pub spelled : SpellParts R S lines parts
   pub follows : along (Some at_count) parts ≡ Some course
@@ -116,11 +116,11 @@ way_begins R S types first = record { parts = []; course = at_count; spelled = t
 
 -- what a line says to the program as it has become, it said to the program as it was
 module _ (p q : ProgramTable) (naming : Naming) (stands : NamingStands p.types naming) (g : GrowsTypes p q) where
-  part_back : (line : List ℕ) (x : Part Tree) → SpellsPart (SpellsTypeOf q) (Names q naming) line x → SpellsPart (SpellsTypeOf p) (Names p naming) line x
+  part_back : (line : List ℕ) (x : ProofLine Tree) → SpellsPart (SpellsTypeOf q) (Names q naming) line x → SpellsPart (SpellsTypeOf p) (Names p naming) line x
   part_back line x s =
       subst (λ S. SpellsPart (SpellsTypeOf p) S line x) (names_kept p q naming stands g) (subst (λ R. SpellsPart R (Names q naming) line x) (spelled_kept p q g) s)
 
-  part_on : (line : List ℕ) (x : Part Tree) → SpellsPart (SpellsTypeOf p) (Names p naming) line x → SpellsPart (SpellsTypeOf q) (Names q naming) line x
+  part_on : (line : List ℕ) (x : ProofLine Tree) → SpellsPart (SpellsTypeOf p) (Names p naming) line x → SpellsPart (SpellsTypeOf q) (Names q naming) line x
   part_on line x s =
       subst (λ S. SpellsPart (SpellsTypeOf q) S line x) (sym (names_kept p q naming stands g)) (subst (λ R. SpellsPart R (Names p naming) line x) (sym (spelled_kept p q g)) s)
 
@@ -149,7 +149,7 @@ module _ (p q : ProgramTable) (naming : Naming) (stands : NamingStands p.types n
       (λ x d s n. r d (record { part = x; says = record { spelled = part_on line x s; of_goals = of_goals w.course x d n }; goes = n }))
 
 -- the lines of goals have numbers, where those of the text have
-goals_fit : (types : List Row) (first : ℕ) (made : List ProofGoal) (bs : List (Block Tree)) → AreGoalsAt types made (goals_from first bs) → first + lines_of bs + 1 < 2 ^ 64 → AllByRecursion LinesFit made
+goals_fit : (types : List Row) (first : ℕ) (made : List ProofGoal) (bs : List (GoalBlock Tree)) → AreGoalsAt types made (goals_from first bs) → first + lines_of bs + 1 < 2 ^ 64 → AllByRecursion LinesFit made
 goals_fit types first [] [] a h = tt
 goals_fit types first [] (b ∷ bs) a h = absurd a
 goals_fit types first (g ∷ gs) [] a h = absurd a
@@ -164,11 +164,11 @@ module _ (R S : List ℕ → Tree → Type 0) (can : CanName R S) where
   pub way_goes_on : (types : List Row) (first : ℕ) (lines : List (List ℕ)) (stage : Stage) → IsUnderWay R S types first lines stage → CanGoOn (GoalLines R S) lines
   way_goes_on types first lines stage w = goals_go_on R S can lines w.parts w.course w.spelled w.follows
 
-  only_end : (types : List Row) (first : ℕ) (stage : Stage) (bs : List (Block Tree)) → IsStage types first stage (at_end bs) → (made : Vec ProofGoal Global) × (stage ≡ stages.AtEnd made)
+  only_end : (types : List Row) (first : ℕ) (stage : Stage) (bs : List (GoalBlock Tree)) → IsStage types first stage (at_end bs) → (made : Vec ProofGoal Global) × (stage ≡ stages.AtEnd made)
   only_end types first (stages.AtEnd made) bs i = (made, refl)
   only_end types first _ bs i = absurd i
 
-  count_some : (ls : List (List ℕ)) (bs : List (Block Tree)) → SpellParts R S ls (goal_list bs) → 0 < length bs
+  count_some : (ls : List (List ℕ)) (bs : List (GoalBlock Tree)) → SpellParts R S ls (goal_list bs) → 0 < length bs
   count_some [] bs s = absurd s
   count_some (l ∷ ls) bs s = (((s.0).reads).number).least
 
@@ -181,7 +181,7 @@ module _ (R S : List ℕ → Tree → Type 0) (can : CanName R S) where
       never r.0 r.1
 
   pub record IsListRead (types : List Row) (first : ℕ) (lines : List (List ℕ)) (made : List ProofGoal) : Type 0 where
-    pub blocks : List (Block Tree)
+    pub blocks : List (GoalBlock Tree)
     pub spelled : SpellParts R S lines (goal_list blocks)
     pub goals : AreGoalsAt types made (goals_from first blocks)
     pub some : 0 < length made

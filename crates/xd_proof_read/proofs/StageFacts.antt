@@ -14,8 +14,8 @@ use Rattle.xd_syntax.specs.declared.types.TypeId.{TypeId}
 use Rattle.xd_sound.proofs.AdoptLaws.{type_kept}
 use Rattle.xd_rules.specs.Rules.{Case}
 use Rattle.xd_meaning.specs.Breach.{Lined}
-use Rattle.xd_proof.specs.Parts.{Part, first_title, second_title, type_count, type_part, goal_count, goal_part, left_part, right_part, empty_part, case_part, end_part}
-use Rattle.xd_proof.specs.Form.{Block, block_length, goals_from}
+use Rattle.xd_proof.specs.Parts.{ProofLine, first_title, second_title, type_count, type_part, goal_count, goal_part, left_part, right_part, empty_part, case_part, end_part}
+use Rattle.xd_proof.specs.Form.{GoalBlock, block_length, goals_from}
 use Rattle.xd_proof.specs.Course.{Course, at_count, at_first_goal, at_left, in_rights, in_cases, at_end, only_if, plain_block, with_empty, with_case, after_goal, next}
 use Rattle.xd_proof.proofs.CourseLemmas.{only, only_true}
 use Rattle.xd_proof.proofs.Unique.{part_one}
@@ -176,25 +176,25 @@ case_next ended goal new made line a b r m d types first (in_cases n bs g) p s q
 case_next ended goal new made line a b r m d types first c p s q e = absurd s
 
 -- ---- the end of a goal
-goals_joined : (n : ℕ) (bs : List (Block Tree)) (b : Block Tree) → goals_from n (bs ++ b ∷ []) ≡ goals_from n bs ++ lined_behind n bs b ∷ []
+goals_joined : (n : ℕ) (bs : List (GoalBlock Tree)) (b : GoalBlock Tree) → goals_from n (bs ++ b ∷ []) ≡ goals_from n bs ++ lined_behind n bs b ∷ []
 goals_joined n [] b = ap (λ i. let x : Lined = record { line = i; goal = record { left = b.left; rights = b.rights; empty_right = b.empty_right; cases = b.cases } } in x ∷ []) (omega arith)
 goals_joined n (c ∷ bs) b =
     ap (λ l. let x : Lined = record { line = n; goal = record { left = c.left; rights = c.rights; empty_right = c.empty_right; cases = c.cases } } in x ∷ l)
     (goals_joined (n + block_length c) bs b
     ∙ ap (λ i. goals_from (n + block_length c) bs ++ (let x : Lined = record { line = i; goal = record { left = b.left; rights = b.rights; empty_right = b.empty_right; cases = b.cases } } in x) ∷ []) (omega arith))
 
-lines_joined : (bs : List (Block Tree)) (b : Block Tree) → lines_of (bs ++ b ∷ []) ≡ lines_of bs + block_length b
+lines_joined : (bs : List (GoalBlock Tree)) (b : GoalBlock Tree) → lines_of (bs ++ b ∷ []) ≡ lines_of bs + block_length b
 lines_joined [] b = omega arith
 lines_joined (c ∷ bs) b = let h = lines_joined bs b in omega (arith, h)
 
-length-goals : (n : ℕ) (bs : List (Block Tree)) → length (goals_from n bs) ≡ length bs
+length-goals : (n : ℕ) (bs : List (GoalBlock Tree)) → length (goals_from n bs) ≡ length bs
 length-goals n [] = refl
 length-goals n (b ∷ bs) = ap suc (length-goals (n + block_length b) bs)
 
-pub length-made : (types : List Row) (made : List ProofGoal) (n : ℕ) (bs : List (Block Tree)) → AreGoalsAt types made (goals_from n bs) → length made ≡ length bs
+pub length-made : (types : List Row) (made : List ProofGoal) (n : ℕ) (bs : List (GoalBlock Tree)) → AreGoalsAt types made (goals_from n bs) → length made ≡ length bs
 length-made types made n bs a = zip_long (IsLinedAt types) made (goals_from n bs) a ∙ length-goals n bs
 
-one_ended : (types : List Row) (first count : ℕ) (ended more : Ended) (goal : ProofGoal) (bs : List (Block Tree)) (b : Block Tree) → more.count ≡ ended.count → (more.goals).items ≡ (ended.goals).items ++ goal ∷ [] →
+one_ended : (types : List Row) (first count : ℕ) (ended more : Ended) (goal : ProofGoal) (bs : List (GoalBlock Tree)) (b : GoalBlock Tree) → more.count ≡ ended.count → (more.goals).items ≡ (ended.goals).items ++ goal ∷ [] →
     AreEnded types first ended count bs → IsLinedAt types goal (lined_behind first bs b) → AreEnded types first more count (bs ++ b ∷ [])
 one_ended types first count ended more goal bs b e f a g = record {
   count = e ∙ a.count;
@@ -204,7 +204,7 @@ one_ended types first count ended more goal bs b e f a g = record {
 }
 
 -- so many goals are ended then
-many_ended : (types : List Row) (first count : ℕ) (more : Ended) (bs : List (Block Tree)) (b : Block Tree) → AreEnded types first more count (bs ++ b ∷ []) → vec_len more.goals ≡ length bs + 1
+many_ended : (types : List Row) (first count : ℕ) (more : Ended) (bs : List (GoalBlock Tree)) (b : GoalBlock Tree) → AreEnded types first more count (bs ++ b ∷ []) → vec_len more.goals ≡ length bs + 1
 many_ended types first count more bs b a =
     let w : vec_len more.goals ≡ length (more.goals).items = search rules in
     let l = length-made types (more.goals).items first (bs ++ b ∷ []) a.goals in
@@ -214,7 +214,7 @@ many_ended types first count more bs b a =
 abbrev goes_on : ℕ → Ended → Bool
 goes_on k more = nat_eq k (vec_len more.goals + 1) && nat_lt (vec_len more.goals) more.count
 
-same_test : (types : List Row) (first count k j : ℕ) (more : Ended) (bs : List (Block Tree)) (b : Block Tree) → AreEnded types first more count (bs ++ b ∷ []) → k ≡ j →
+same_test : (types : List Row) (first count k j : ℕ) (more : Ended) (bs : List (GoalBlock Tree)) (b : GoalBlock Tree) → AreEnded types first more count (bs ++ b ∷ []) → k ≡ j →
     goes_on k more ≡ (nat_eq j (length bs + 2) && nat_lt (length bs + 1) count)
 same_test types first count k j more bs b a e =
     let l = many_ended types first count more bs b a in
@@ -243,7 +243,7 @@ goal_none ended more goal k line test a b t h types first (in_cases n bs g) (goa
 goal_none ended more goal k line test a b t h types first (in_cases n bs g) p s q e = absurd q
 goal_none ended more goal k line test a b t h types first c p s q e = absurd s
 
-same_end : (types : List Row) (first count : ℕ) (more : Ended) (bs : List (Block Tree)) (b : Block Tree) → AreEnded types first more count (bs ++ b ∷ []) → nat_eq more.count (vec_len more.goals) ≡ nat_eq count (length bs + 1)
+same_end : (types : List Row) (first count : ℕ) (more : Ended) (bs : List (GoalBlock Tree)) (b : GoalBlock Tree) → AreEnded types first more count (bs ++ b ∷ []) → nat_eq more.count (vec_len more.goals) ≡ nat_eq count (length bs + 1)
 same_end types first count more bs b a = ap (λ x. nat_eq x (vec_len more.goals)) a.count ∙ ap (nat_eq count) (many_ended types first count more bs b a)
 
 pub end_next : (ended more : Ended) (goal : ProofGoal) (line : ℕ) (test : Bool) → more.count ≡ ended.count → (more.goals).items ≡ (ended.goals).items ++ goal ∷ [] → test ≡ nat_eq more.count (vec_len more.goals) → test ≡ true →
@@ -267,7 +267,7 @@ end_none ended more goal line test a b t h types first c p s q e = absurd s
 
 -- ---- the end
 -- ---- lines passed, and types that are added
-behind_passed : (n : ℕ) (bs : List (Block Tree)) (b : Block Tree) (p : Part Tree) (d : Course Tree) → after_goal n bs b p ≡ Some d → passed d ≡ lines_of bs + block_length b + 2
+behind_passed : (n : ℕ) (bs : List (GoalBlock Tree)) (b : GoalBlock Tree) (p : ProofLine Tree) (d : Course Tree) → after_goal n bs b p ≡ Some d → passed d ≡ lines_of bs + block_length b + 2
 behind_passed n bs b (goal_part k) d e =
     let r = only (nat_eq k (length bs + 2) && nat_lt (length bs + 1) n) (at_left n (bs ++ b ∷ [])) d e in
     subst (λ w. passed w ≡ lines_of bs + block_length b + 2) r.1 (let l = lines_joined bs b in omega (arith, l))
@@ -279,7 +279,7 @@ behind_passed n bs b (case_part c) d e =
     subst (λ w. passed w ≡ lines_of bs + block_length b + 2) x (let l = length-append b.cases (c ∷ []) in omega (arith, l))
 behind_passed n bs b _ d e = absurd (cc)
 
-pub one_passed : (c : Course Tree) (p : Part Tree) (d : Course Tree) → next c p ≡ Some d → passed d ≡ passed c + 1
+pub one_passed : (c : Course Tree) (p : ProofLine Tree) (d : Course Tree) → next c p ≡ Some d → passed d ≡ passed c + 1
 one_passed at_count (goal_count n) d e = let r = only (nat_lt 0 n) (at_first_goal n) d e in subst (λ w. passed w ≡ 1) r.1 refl
 one_passed at_count _ d e = absurd (cc)
 one_passed (at_first_goal n) (goal_part k) d e = let r = only (nat_eq k 1) (at_left n []) d e in subst (λ w. passed w ≡ 2) r.1 refl
@@ -308,7 +308,7 @@ stray (at_end bs) = (refl, refl, (λ n. refl), (λ n T. refl))
 none_some : {A : Type 0} (o : Option A) (x : A) → o ≡ None → o ≡ Some x → ⊥
 none_some o x e f = cc
 
-pub of_goals : (c : Course Tree) (p : Part Tree) (d : Course Tree) → next c p ≡ Some d → IsOfGoals p
+pub of_goals : (c : Course Tree) (p : ProofLine Tree) (d : Course Tree) → next c p ≡ Some d → IsOfGoals p
 of_goals c first_title d e = none_some (next c first_title) d (stray c).0 e
 of_goals c second_title d e = none_some (next c second_title) d (stray c).1 e
 of_goals c (type_count n) d e = none_some (next c (type_count n)) d ((stray c).2 n) e
@@ -337,7 +337,7 @@ goal_kept old new k made l a =
 pub goals_kept : (old new : List Row) → KeepsRows old new → (made : List ProofGoal) (goals : List Lined) → AreGoalsAt old made goals → AreGoalsAt new made goals
 goals_kept old new k made goals a = all_kept (IsLinedAt old) (IsLinedAt new) (goal_kept old new k) made goals a
 
-ended_kept : (old new : List Row) → KeepsRows old new → (first n : ℕ) (made : Ended) (bs : List (Block Tree)) → AreEnded old first made n bs → AreEnded new first made n bs
+ended_kept : (old new : List Row) → KeepsRows old new → (first n : ℕ) (made : Ended) (bs : List (GoalBlock Tree)) → AreEnded old first made n bs → AreEnded new first made n bs
 ended_kept old new k first n made bs a = record { count = a.count; goals = goals_kept old new k (made.goals).items (goals_from first bs) a.goals }
 
 pub stage_kept : (old new : List Row) → KeepsRows old new → (first : ℕ) (s : Stage) (c : Course Tree) → IsStage old first s c → IsStage new first s c
@@ -350,11 +350,11 @@ stage_kept old new k first (stages.AtEnd made) (at_end bs) i = goals_kept old ne
 stage_kept old new k first s c i = absurd i
 
 -- ---- a line, read and placed
-same_part : (p : ProgramTable) (naming : Naming) (n : CanName (SpellsTypeOf p) (Names p naming)) (line : List ℕ) (a b : Part Tree) → Says p naming line a → Says p naming line b → b ≡ a
+same_part : (p : ProgramTable) (naming : Naming) (n : CanName (SpellsTypeOf p) (Names p naming)) (line : List ℕ) (a b : ProofLine Tree) → Says p naming line a → Says p naming line b → b ≡ a
 same_part p naming n line a b s t = part_one (SpellsTypeOf p) (Names p naming) n.types_one n.one line b a t.spelled s.spelled
 
 pub taken : (p q : ProgramTable) (naming : Naming) → CanName (SpellsTypeOf p) (Names p naming) → (line : List ℕ) (stage : Stage) (number : ℕ) (s : Said) (r : Result (Option Stage) NoMemory) → KeepsRows p.types q.types →
-    ((part : Part Tree) × Says p naming line part × IsPart q.types s part) → IfOk r (LeadsTo stage s number) → IfOk r (IsLineTaken p naming line stage number q.types)
+    ((part : ProofLine Tree) × Says p naming line part × IsPart q.types s part) → IfOk r (LeadsTo stage s number) → IfOk r (IsLineTaken p naming line stage number q.types)
 taken p q naming can line stage number s (Err x) k h f = tt
 taken p q naming can line stage number s (Ok o) k (part, says, is) f = λ first c i e. go o first c (f q.types first c part (stage_kept p.types q.types k first stage c i) is e)
   where
@@ -362,5 +362,5 @@ taken p q naming can line stage number s (Ok o) k (part, says, is) f = λ first 
     go None first c none = λ d g. none_some (next c part) d none (subst (λ x. next c x ≡ Some d) (same_part p naming can line part g.part says g.says) g.goes)
     go (Some w) first c (d, n, i) = (d, record { part = part; says = says; goes = n }, i)
 
-pub not_taken : (p : ProgramTable) (naming : Naming) (line : List ℕ) (stage : Stage) (number : ℕ) (types : List Row) → ((part : Part Tree) → Says p naming line part → ⊥) → IsLineTaken p naming line stage number types None
+pub not_taken : (p : ProgramTable) (naming : Naming) (line : List ℕ) (stage : Stage) (number : ℕ) (types : List Row) → ((part : ProofLine Tree) → Says p naming line part → ⊥) → IsLineTaken p naming line stage number types None
 not_taken p naming line stage number types never first c i e = λ d g. never g.part g.says

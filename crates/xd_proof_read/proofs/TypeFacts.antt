@@ -15,7 +15,7 @@ use Rattle.xd_syntax.specs.Kept.{ProgramTable}
 use Rattle.xd_syntax.specs.declared.types.TypeId.{TypeId}
 use Rattle.xd_sound.proofs.AdoptLaws.{type_kept}
 use Rattle.xd_proof.specs.Lines.{space, IsFreeOf, SpellsNumber, IsNumber}
-use Rattle.xd_proof.specs.Parts.{Part, type_part, SpellsTypePart, SpellParts}
+use Rattle.xd_proof.specs.Parts.{ProofLine, type_part, SpellsTypePart, SpellParts}
 use Rattle.xd_proof.specs.Form.{types_from}
 use Rattle.xd_proof.proofs.BeginLemmas.{spell_joined}
 use Rattle.xd_proof.proofs.LineLemmas.{same_front, no_mark}
@@ -84,7 +84,7 @@ module _ (R : List ℕ → Tree → Type 0) where
   length-types k [] = refl
   length-types k (T ∷ Ts) = ap suc (length-types (k + 1) Ts)
 
-  length-spelled : {A : Type 0} (S : List ℕ → A → Type 0) (ls : List (List ℕ)) (ps : List (Part A)) → SpellParts R S ls ps → length ls ≡ length ps
+  length-spelled : {A : Type 0} (S : List ℕ → A → Type 0) (ls : List (List ℕ)) (ps : List (ProofLine A)) → SpellParts R S ls ps → length ls ≡ length ps
   length-spelled S [] [] s = refl
   length-spelled S [] (p ∷ ps) s = absurd s
   length-spelled S (l ∷ ls) [] s = absurd s
@@ -119,14 +119,14 @@ module _ (R : List ℕ → Tree → Type 0) where
       )
 
   -- lines of types, and others after them
-  pub types_split : {A : Type 0} (S : List ℕ → A → Type 0) (k : ℕ) (xs ys : List (List ℕ)) (Ts : List Tree) (qs : List (Part A)) → length xs ≡ length Ts → SpellParts R S (xs ++ ys) (types_from k Ts ++ qs) →
+  pub types_split : {A : Type 0} (S : List ℕ → A → Type 0) (k : ℕ) (xs ys : List (List ℕ)) (Ts : List Tree) (qs : List (ProofLine A)) → length xs ≡ length Ts → SpellParts R S (xs ++ ys) (types_from k Ts ++ qs) →
       SpellParts {A = ℕ} R SpellsNumber xs (types_from k Ts) × SpellParts R S ys qs
   types_split S k [] ys [] qs l s = (tt, s)
   types_split S k [] ys (T ∷ Ts) qs l s = absurd (omega (arith, l))
   types_split S k (x ∷ xs) ys [] qs l s = absurd (omega (arith, l))
   types_split S k (x ∷ xs) ys (T ∷ Ts) qs l s = let r = types_split S (k + 1) xs ys Ts qs (omega (arith, l)) s.1 in ((s.0, r.0), r.1)
 
-  pub type_at : (k : ℕ) (xs : List (List ℕ)) (line : List ℕ) (ys : List (List ℕ)) (Ts : List Tree) (qs : List (Part ℕ)) → length xs < length Ts → SpellParts R SpellsNumber (xs ++ line ∷ ys) (types_from k Ts ++ qs) →
+  pub type_at : (k : ℕ) (xs : List (List ℕ)) (line : List ℕ) (ys : List (List ℕ)) (Ts : List Tree) (qs : List (ProofLine ℕ)) → length xs < length Ts → SpellParts R SpellsNumber (xs ++ line ∷ ys) (types_from k Ts ++ qs) →
       (T : Tree) × IsTypeLine R line (k + length xs) T
   type_at k [] line ys [] qs l s = absurd (omega (arith, l))
   type_at k [] line ys (T ∷ Ts) qs l s = (T, subst (λ j. IsTypeLine R line j T) (omega arith) s.0)
@@ -145,7 +145,7 @@ module _ (R : List ℕ → Tree → Type 0) where
       let t : types_from {A = ℕ} (k + 1) Ts ≡ types_from (k + 1) Us = ap (λ l. drop 1 l) e in
       ap (λ V. V ∷ Ts) h ∙ ap (λ l. U ∷ l) (same_types (k + 1) Ts Us t)
 
-  pub too_few : (xs : List (List ℕ)) (k : ℕ) (Ts : List Tree) (qs : List (Part ℕ)) → SpellParts R SpellsNumber xs (types_from k Ts ++ qs) → length Ts ≤ length xs
+  pub too_few : (xs : List (List ℕ)) (k : ℕ) (Ts : List Tree) (qs : List (ProofLine ℕ)) → SpellParts R SpellsNumber xs (types_from k Ts ++ qs) → length Ts ≤ length xs
   too_few xs k Ts qs s =
       let a = length-spelled SpellsNumber xs (types_from k Ts ++ qs) s in
       let b = length-append (types_from k Ts) qs in

@@ -9,7 +9,7 @@ use Rattle.xd_syntax.specs.TypeText.{type_text}
 use Rattle.xd_meaning.specs.Breach.{Lined}
 use Rattle.xd_proof.specs.Lines.{space, SpellsNumber, IsCut}
 use Rattle.xd_proof.specs.Parts.{Follows, SpellParts}
-use Rattle.xd_proof.specs.Form.{Block, goal_list, types_from, goals_from, AreSecond, AreProof, IsProofText, CanBegin, IsFirstBadLine}
+use Rattle.xd_proof.specs.Form.{GoalBlock, goal_list, types_from, goals_from, AreSecond, AreProof, IsProofText, CanBegin, IsFirstBadLine}
 use Rattle.xd_proof.proofs.BeginLemmas.{spell_joined}
 use Rattle.xd_proof.proofs.LineLemmas.{same_cut}
 use Rattle.xd_proof.proofs.Unique.{number_one, parts_one, follows_one}
@@ -48,7 +48,7 @@ module _ (R : List ℕ → Tree → Type 0) (one : (b : List ℕ) (T U : Tree) �
   abbrev front : List (List ℕ)
   front = codes "xduce-proof 2" ∷ line ∷ typed
 
-  pub second_whole : (ls : List (List ℕ)) (ms : List (Block Tree)) → SpellParts R (NamesType Ts) ls (goal_list ms) → AreProof R (front ++ ls) (goals_from (4 + length Ts) ms)
+  pub second_whole : (ls : List (List ℕ)) (ms : List (GoalBlock Tree)) → SpellParts R (NamesType Ts) ls (goal_list ms) → AreProof R (front ++ ls) (goals_from (4 + length Ts) ms)
   second_whole ls ms s =
       let r = meant_by R Ts ls ms s in
       inr (record {

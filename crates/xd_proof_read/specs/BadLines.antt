@@ -4,7 +4,7 @@ use Rattle.xd_syntax.specs.Tree.{Tree}
 use Rattle.xd_meaning.specs.Breach.{Lined}
 use Rattle.xd_proof.specs.Lines.{SpellsNumber}
 use Rattle.xd_proof.specs.Parts.{Follows, SpellsTypePart, SpellParts}
-use Rattle.xd_proof.specs.Form.{Block, goal_list, types_from, AreProof}
+use Rattle.xd_proof.specs.Form.{GoalBlock, goal_list, types_from, AreProof}
 use Rattle.xd_proof_read.specs.declared.formats.Format.{Format}
 use Rattle.xd_proof_read.specs.declared.formats.Format.TheVariants.{First, Second}
 use Rattle.xd_proof_read.specs.declared.error.ProofError.{ProofError}
@@ -16,7 +16,7 @@ ProofLines TypeReads lines = (goals : List Lined) × AreProof TypeReads lines go
 
 -- the lines from the number of goals to the end
 abbrev pub GoalLines : (TypeReads Reads : List ℕ → Tree → Type 0) → List (List ℕ) → Type 0
-GoalLines TypeReads Reads lines = (blocks : List (Block Tree)) × SpellParts TypeReads Reads lines (goal_list blocks)
+GoalLines TypeReads Reads lines = (blocks : List (GoalBlock Tree)) × SpellParts TypeReads Reads lines (goal_list blocks)
 
 module _ (AreWhole : List (List ℕ) → Type 0) where
   -- some go on from these

@@ -4,7 +4,7 @@ use Rattle.xd_syntax.specs.Tree.{Tree}
 use Rattle.xd_syntax.specs.Table.{Row}
 use Rattle.xd_syntax.specs.SoundTables.{IsTypeAt}
 use Rattle.xd_syntax.specs.Kept.{ProgramTable}
-use Rattle.xd_proof.specs.Parts.{Part, first_title, second_title, type_count, type_part, goal_count, goal_part, left_part, right_part, empty_part, case_part, end_part, SpellsPart}
+use Rattle.xd_proof.specs.Parts.{ProofLine, first_title, second_title, type_count, type_part, goal_count, goal_part, left_part, right_part, empty_part, case_part, end_part, SpellsPart}
 use Rattle.xd_proof.specs.Cases.{IsCase}
 use Rattle.xd_proof_read.specs.declared.naming.Naming.{Naming}
 use Rattle.xd_proof_read.specs.declared.said.Said.{Said}
@@ -22,7 +22,7 @@ keyword_text keywords.Empty = codes "empty"
 keyword_text keywords.Case = codes "case"
 
 -- a part of a list of goals
-abbrev pub IsOfGoals : Part Tree → Type 0
+abbrev pub IsOfGoals : ProofLine Tree → Type 0
 IsOfGoals first_title = ⊥
 IsOfGoals second_title = ⊥
 IsOfGoals (type_count n) = ⊥
@@ -30,7 +30,7 @@ IsOfGoals (type_part n T) = ⊥
 IsOfGoals _ = Unit {0}
 
 -- what was read is this part
-abbrev pub IsPart : List Row → Said → Part Tree → Type 0
+abbrev pub IsPart : List Row → Said → ProofLine Tree → Type 0
 IsPart types (said.Goals n) (goal_count m) = (n ≡ m) × (0 < m)
 IsPart types (said.Goal n) (goal_part m) = n ≡ m
 IsPart types (said.Left id) (left_part T) = IsTypeAt types T id
@@ -41,10 +41,10 @@ IsPart types said.End end_part = Unit {0}
 IsPart types _ _ = ⊥
 
 -- the line says this part of a list of goals
-pub record Says (p : ProgramTable) (naming : Naming) (line : List ℕ) (part : Part Tree) : Type 0 where
+pub record Says (p : ProgramTable) (naming : Naming) (line : List ℕ) (part : ProofLine Tree) : Type 0 where
   pub spelled : SpellsPart (SpellsTypeOf p) (Names p naming) line part
   pub of_goals : IsOfGoals part
 
 -- what is made is what the line says, if it says such a part
 abbrev pub IsLineRead : ProgramTable → Naming → List ℕ → List Row → Option Said → Type 0
-IsLineRead p naming line types made = MatchOption made ((part : Part Tree) → Says p naming line part → ⊥) (λ said. (part : Part Tree) × Says p naming line part × IsPart types said part)
+IsLineRead p naming line types made = MatchOption made ((part : ProofLine Tree) → Says p naming line part → ⊥) (λ said. (part : ProofLine Tree) × Says p naming line part × IsPart types said part)

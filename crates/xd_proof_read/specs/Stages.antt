@@ -4,8 +4,8 @@ use Rattle.xd_syntax.specs.Tree.{Tree}
 use Rattle.xd_syntax.specs.Table.{Row}
 use Rattle.xd_syntax.specs.Kept.{ProgramTable}
 use Rattle.xd_meaning.specs.Breach.{Lined}
-use Rattle.xd_proof.specs.Parts.{Part}
-use Rattle.xd_proof.specs.Form.{Block, block_length, goals_from}
+use Rattle.xd_proof.specs.Parts.{ProofLine}
+use Rattle.xd_proof.specs.Form.{GoalBlock, block_length, goals_from}
 use Rattle.xd_proof.specs.Course.{Course, at_count, at_first_goal, at_left, in_rights, in_cases, at_end, plain_block, next}
 use Rattle.xd_proof.specs.Goals.{IsLinedAt, AreGoalsAt}
 use Rattle.xd_proof_read.specs.declared.naming.Naming.{Naming}
@@ -16,17 +16,17 @@ use Rattle.xd_proof_read.specs.declared.stages.Stage.TheVariants as stages
 use Rattle.xd_proof_read.specs.Said.{IsPart, Says}
 
 -- how many lines goals take
-abbrev pub lines_of : List (Block Tree) → ℕ
+abbrev pub lines_of : List (GoalBlock Tree) → ℕ
 lines_of [] = 0
 lines_of (b ∷ bs) = block_length b + lines_of bs
 
 -- the goal, with the number of its first line: after these, the first of which begins on the line
 -- `first`
-abbrev pub lined_behind : (first : ℕ) → List (Block Tree) → Block Tree → Lined
+abbrev pub lined_behind : (first : ℕ) → List (GoalBlock Tree) → GoalBlock Tree → Lined
 lined_behind first bs b = record { line = first + lines_of bs; goal = record { left = b.left; rights = b.rights; empty_right = b.empty_right; cases = b.cases } }
 
 -- the goals that were read to their ends, of so many
-pub record AreEnded (types : List Row) (first : ℕ) (made : Ended) (n : ℕ) (bs : List (Block Tree)) : Type 0 where
+pub record AreEnded (types : List Row) (first : ℕ) (made : Ended) (n : ℕ) (bs : List (GoalBlock Tree)) : Type 0 where
   pub count : made.count ≡ n
   pub goals : AreGoalsAt types made.goals.items (goals_from first bs)
 
@@ -50,17 +50,17 @@ passed (in_cases n bs b) = lines_of bs + block_length b + 1
 passed (at_end bs) = lines_of bs + 2
 
 -- the stage after a line, where it may stand there
-abbrev pub IsNext : List Row → (first : ℕ) → Course Tree → Part Tree → Option Stage → Type 0
+abbrev pub IsNext : List Row → (first : ℕ) → Course Tree → ProofLine Tree → Option Stage → Type 0
 IsNext types first c p after = MatchOption after (next c p ≡ None) (λ s. (d : Course Tree) × (next c p ≡ Some d) × IsStage types first s d)
 
 -- Wherever this line with this number is read at this stage, what is made is the stage after it.
 abbrev pub LeadsTo : Stage → Said → (line : ℕ) → Option Stage → Type 0
 LeadsTo stage said line after =
-    (types : List Row) (first : ℕ) (c : Course Tree) (p : Part Tree) → IsStage types first stage c → IsPart types said p → line + 1 ≡ first + passed c → IsNext types first c p after
+    (types : List Row) (first : ℕ) (c : Course Tree) (p : ProofLine Tree) → IsStage types first stage c → IsPart types said p → line + 1 ≡ first + passed c → IsNext types first c p after
 
 -- the line says what may stand here, and the course after it is this
 pub record GoesTo (p : ProgramTable) (naming : Naming) (line : List ℕ) (c d : Course Tree) : Type 0 where
-  pub part : Part Tree
+  pub part : ProofLine Tree
   pub says : Says p naming line part
   pub goes : next c part ≡ Some d
 

@@ -1,7 +1,7 @@
 //! Lists of goals.
 
 ghost use Rattle.std.specs.Prelude.{◌+◌, ◌<◌, ◌^◌, List, map, length, IfOk, IfErr};
-ghost use Rattle.xd_proof.specs.Form.{Block, goal_list, goals_from};
+ghost use Rattle.xd_proof.specs.Form.{GoalBlock, goal_list, goals_from};
 ghost use Rattle.xd_proof.specs.Parts.{SpellParts};
 ghost use Rattle.xd_proof.specs.Goals.{AreGoalsAt};
 ghost use Rattle.xd_syntax.specs.Tree.{Tree};
@@ -28,7 +28,7 @@ pub(crate) fn read_goals(
 ) -> Result<Proof, ProofError>
     requires stands { NamingStands sound.old.types naming.now }
     requires fits { before + length lines.now + 1 < 2 ^ 64 }
-    ensures ok { IfOk result (λ proof. (bs : List (Block Tree)) × SpellParts (SpellsTypeOf sound.old) (Names sound.old naming.now) (map (λ line. line.now) lines.now) (goal_list bs) × AreGoalsAt sound.new.types proof (goals_from (before + 2) bs)) }
+    ensures ok { IfOk result (λ proof. (bs : List (GoalBlock Tree)) × SpellParts (SpellsTypeOf sound.old) (Names sound.old naming.now) (map (λ line. line.now) lines.now) (goal_list bs) × AreGoalsAt sound.new.types proof (goals_from (before + 2) bs)) }
     ensures bad { IfErr result (TellsLine (IsBehind before (IsFirstBad (GoalLines (SpellsTypeOf sound.old) (Names sound.old naming.now)) (map (λ line. line.now) lines.now)))) }
     ensures grows { GrowsTypes sound.old sound.new }
 {

@@ -13,8 +13,8 @@ use Rattle.xd_rules.specs.Rules.{ChoiceTree, settles_content, settles_rest, spli
 use Rattle.xd_meaning.specs.Consistent.{Goal}
 use Rattle.xd_meaning.specs.Breach.{Lined, goals_of}
 use Rattle.xd_proof.specs.Lines.{line_feed, space, each_ended, spaced}
-use Rattle.xd_proof.specs.Parts.{Part, left_part, right_part, case_part, atom_word, tree_words}
-use Rattle.xd_proof.specs.Form.{Block, empty_parts, block_parts, blocks_from, types_from}
+use Rattle.xd_proof.specs.Parts.{ProofLine, left_part, right_part, case_part, atom_word, tree_words}
+use Rattle.xd_proof.specs.Form.{GoalBlock, empty_parts, block_parts, blocks_from, types_from}
 use Rattle.xd_proof.specs.Steps.{steps_of}
 use Rattle.xd_proof.specs.Cases.{IsCase}
 use Rattle.xd_proof.specs.declared.cases.ReadCase.{ReadCase}
@@ -23,10 +23,10 @@ use Rattle.xd_proof.specs.declared.proof.ProofGoal.{ProofGoal}
 use Rattle.xd_proof_write.specs.SecondText.{line_of}
 use Rattle.xd_proof_write.specs.Written.{number_line, step_text, case_line, empty_line, type_line, type_lines, text_at, right_lines, goal_lines, goals_lines}
 
-abbrev pub lines : List (Part ℕ) → List ℕ
+abbrev pub lines : List (ProofLine ℕ) → List ℕ
 lines ps = each_ended line_feed (map line_of ps)
 
-pub lines-append : (ps qs : List (Part ℕ)) → lines (ps ++ qs) ≡ lines ps ++ lines qs
+pub lines-append : (ps qs : List (ProofLine ℕ)) → lines (ps ++ qs) ≡ lines ps ++ lines qs
 lines-append [] qs = refl
 lines-append (p ∷ ps) qs = ap (λ r. line_of p ++ line_feed ∷ r) (lines-append ps qs) ∙ sym (append_assoc (line_of p) (line_feed ∷ lines ps) (lines qs))
 
@@ -103,7 +103,7 @@ module _ (rows : List Row) (by_text : List ℕ → ℕ) (number : Tree → ℕ) 
       ∙ ap (λ n. number_line (codes "right") n ++ lines (map right_part (map number Ts))) (agree id T a.0)
       ∙ behind_number (codes "right") (number T) (lines (map right_part (map number Ts)))
 
-  abbrev block_of : Goal → Block ℕ
+  abbrev block_of : Goal → GoalBlock ℕ
   block_of g = record { left = number g.left; rights = map number g.rights; empty_right = g.empty_right; cases = g.cases }
 
   goal_written : (k : ℕ) (m : ProofGoal) (g : Goal) → IsGoalAt rows m g → goal_lines rows by_text k m ≡ lines (block_parts k (block_of g))

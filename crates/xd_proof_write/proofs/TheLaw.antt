@@ -14,9 +14,9 @@ use Rattle.xd_laws.specs.SameTree.{same_tree}
 use Rattle.xd_laws.proofs.SameTrees.{same_tree-is, tree_same}
 use Rattle.xd_type_laws.proofs.TheLaw.{types_read_back}
 use Rattle.xd_proof.specs.Lines.{line_feed, space, each_ended, IsNumber, SpellsNumber}
-use Rattle.xd_proof.specs.Parts.{Part, type_part, goal_part, left_part, right_part, case_part, end_part, Follows, SpellsPart, SpellParts}
+use Rattle.xd_proof.specs.Parts.{ProofLine, type_part, goal_part, left_part, right_part, case_part, end_part, Follows, SpellsPart, SpellParts}
 use Rattle.xd_proof.specs.TypeTexts.{SpellsType}
-use Rattle.xd_proof.specs.Form.{Block, empty_parts, block_parts, blocks_from, types_from, goal_list, block_length, goals_from, AreNamed, NameTypes}
+use Rattle.xd_proof.specs.Form.{GoalBlock, empty_parts, block_parts, blocks_from, types_from, goal_list, block_length, goals_from, AreNamed, NameTypes}
 use Rattle.xd_proof_write.specs.SecondText.{each_once, number_among, types_of, distinct_types, numbered_block, second_parts, line_of, second_text_of}
 use Rattle.xd_proof_write.specs.Laws.{IsWritable, IsTableType, IsWritableCase, IsWritableNumber, IsWritableGoal, SecondTextsReadBack, SameTypesAreEqual}
 use Rattle.xd_proof_write.proofs.OnceLemmas.{all_there, once_has, number_stands, all_once}
@@ -24,15 +24,15 @@ use Rattle.xd_proof_write.proofs.FreeLemmas.{IsLine, line_joined, is_line, decim
 
 -- ---- lines that are spelled, and have no line feed
 module _ (known : List (List ℕ)) where
-  record IsWritten (p : Part ℕ) : Type 0 where
+  record IsWritten (p : ProofLine ℕ) : Type 0 where
     spelled : SpellsPart (SpellsType known) SpellsNumber (line_of p) p
     line : IsLine (line_of p)
 
-  spell_all : (ps : List (Part ℕ)) → AllByRecursion IsWritten ps → SpellParts (SpellsType known) SpellsNumber (map line_of ps) ps
+  spell_all : (ps : List (ProofLine ℕ)) → AllByRecursion IsWritten ps → SpellParts (SpellsType known) SpellsNumber (map line_of ps) ps
   spell_all [] a = tt
   spell_all (p ∷ ps) a = ((a.0).spelled, spell_all ps a.1)
 
-  all_lines : (ps : List (Part ℕ)) → AllByRecursion IsWritten ps → AllByRecursion IsLine (map line_of ps)
+  all_lines : (ps : List (ProofLine ℕ)) → AllByRecursion IsWritten ps → AllByRecursion IsLine (map line_of ps)
   all_lines [] a = tt
   all_lines (p ∷ ps) a = ((a.0).line, all_lines ps a.1)
 
@@ -115,7 +115,7 @@ module _ (known : List (List ℕ)) where
         (blocks_written (k + 1) gs (omega arith) (omega (arith, q)) w.1 (all_back IsThere (g.left ∷ g.rights) (types_of gs) a))
 
     -- what the numbers name
-    abbrev meant : Goal → Block Tree
+    abbrev meant : Goal → GoalBlock Tree
     meant g = record { left = g.left; rights = g.rights; empty_right = g.empty_right; cases = g.cases }
 
     are_named : (Ts : List Tree) → AllByRecursion IsThere Ts → AreNamed Us (map (number_among same_tree Us) Ts) Ts

@@ -10,5 +10,6 @@ rights_text [] = codes "nothing"
 rights_text (T ∷ []) = type_text T
 rights_text (T ∷ (U ∷ Us)) = type_text T ++ (codes " or " ++ rights_text (U ∷ Us))
 
+-- the line of an accepted proof, by its first goal
 abbrev pub claim_text : Goal → List ℕ
 claim_text g = codes "accepted: " ++ (type_text g.left ++ (codes " <: " ++ rights_text g.rights))

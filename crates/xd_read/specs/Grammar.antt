@@ -41,7 +41,8 @@ abbrev pub Items : Context → Document → List Terminal → List Terminal → 
 Items p empty ts rest = NoItems p ts rest
 Items p (text s r) ts rest = (us : List Terminal) × Lead p ts (QuotedText s ∷ us) × Items Behind r us rest
 Items p (element l c r) ts rest =
-    (us : List Terminal) × (vs : List Terminal) × Lead p ts (Label l ∷ us) × Items Content c us (BracketR ∷ vs) × Items Behind r vs rest
+    (us : List Terminal) × (vs : List Terminal)
+    × Lead p ts (Label l ∷ us) × Items Content c us (BracketR ∷ vs) × Items Behind r vs rest
 
 -- the terminals spell the document
 abbrev pub Spells : List Terminal → Document → Type 0

@@ -1,4 +1,14 @@
 -- Where bytes stop being the beginning of a document of a set, as of those that a state accepts.
+--
+-- Three examples, each for the set of the one document `a[b[],c[]]`:
+--
+--   a[b[]]        stops at the second `]`, outside: the tokens up to there begin a document, though
+--                 none of the set
+--   a[b[],c[]],,  stops at the first of these two commas, outside: a document may go on with it
+--   a[b[],)       stops at the `)`, malformed: no document goes on with it
+--
+-- The place is that of the token. Where bytes aren't UTF-8 it is the place after their longest
+-- front that is.
 use Rattle.std.specs.Prelude.{◌≡◌, ◌⊎◌, ℕ, ◌-◌, ◌^◌, ◌==◌, min, Bool, true, false, cond, List, [], ◌∷◌, ◌++◌, length, take, map}
 use Rattle.std.specs.Str.Lossy.{utf8_valid_len}
 use Rattle.xd_base.specs.declared.Place.{Place}
@@ -25,14 +35,18 @@ is_open k = false
 abbrev pub cut_off : Place → Lexeme → Lexeme
 cut_off p x = cond (is_open x.kind) (record { kind = kinds.Broken BadCharacter; text = []; place = p }) x
 
+-- the tokens, unless they are whole with what is open broken at this place
 abbrev pub cut_off_unless : Bool → Place → List Lexeme → List Lexeme
 cut_off_unless whole p xs = cond whole xs (map (cut_off p) xs)
 
 -- The tokens of bytes that begin at a place: those of the longest front that is UTF-8. Where it
 -- isn't all, the one that is open is broken at the place after it.
 abbrev pub tokens_at : Place → List ℕ → List Lexeme
-tokens_at p bytes = let front = text_front bytes in cut_off_unless (utf8_valid_len bytes == length bytes) (past p front) (tokens_from 0 p front)
+tokens_at p bytes =
+    let front = text_front bytes in
+    cut_off_unless (utf8_valid_len bytes == length bytes) (past p front) (tokens_from 0 p front)
 
+-- the tokens of bytes from the first place on
 abbrev pub stream_tokens : List ℕ → List Lexeme
 stream_tokens bytes = tokens_at start bytes
 
@@ -49,7 +63,8 @@ told p = record { line = min p.line (2 ^ 64 - 1); column = min p.column (2 ^ 64 
 
 -- the first token such that the tokens up to it begin no document of the set, and its place as it
 -- is told
-pub record IsFirstStop (In : Document → Type 0) (tokens : List Lexeme) (before : List Lexeme) (x : Lexeme) (place : Place) : Type 0 where
+pub record IsFirstStop (In : Document → Type 0) (tokens before : List Lexeme)
+    (x : Lexeme) (place : Place) : Type 0 where
   pub after : List Lexeme
   pub split : tokens ≡ before ++ x ∷ after
   pub goes : (before ≡ []) ⊎ BeginsOneOf In (terminals_of before)
@@ -75,5 +90,3 @@ pub record SpellsOneOf (In : Document → Type 0) (bytes : List ℕ) : Type 0 wh
   pub document : Document
   pub spells : BytesSpell bytes document
   pub within : In document
-
--- ---- the documents that a state accepts

@@ -31,7 +31,7 @@ use Rattle.xd_doc.specs.Members.{IsOneOf}
 use Rattle.xd_grammar.specs.Grammar.{rules}
 use Rattle.xd_grammar.specs.Text.{word_terminal}
 use Rattle.xd_parse_trees.specs.Merged.{class_of}
-use Rattle.xd_parse_trees.specs.Values.{quoted_text as a_quoted, mark, a_tree, names, texts, labels, class, labelled, token_of, value_of, named_type}
+use Rattle.xd_parse_trees.specs.Values.{a_text as a_quoted, mark, a_tree, names, texts, labels, class, labelled, token_of, value_of, named_type}
 use Rattle.xd_parse_trees.proofs.ByteOrder.{class_made}
 use Rattle.xd_type_laws.proofs.RowsReadLemmas.{Reads, read_end, read_token, read_opening, read_closed, read_alone, read_then, read_unless, same_bytes, starts_token}
 use Rattle.xd_type_laws.proofs.Levels.{Spells, prim, alt, behind_prim, behind_any}
