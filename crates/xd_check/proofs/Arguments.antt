@@ -11,7 +11,8 @@ use Rattle.xd_syntax.specs.Fits.{Fits}
 use Rattle.xd_syntax.specs.Expression.{Expression, Called, no_argument, arguments_of, place_of_expression}
 use Rattle.xd_syntax.specs.Program.{Parameter, ProgramTree, names_of, function_of}
 use Rattle.xd_syntax.specs.May.{Scope, May, FitsResult}
-use Rattle.xd_syntax.specs.CheckFaults.{Line, LineKind, LineWhere, Both, Misfits, LinesOf, LinesOfArguments, parameters_of, wrong_argument}
+use Rattle.xd_syntax.specs.CheckFaults.{Line, LineKind, LineWhere, Misfits, LinesOf, LinesOfArguments, parameters_of, wrong_argument}
+use Rattle.xd_syntax.specs.Order.{InTurn}
 use Rattle.xd_syntax.specs.Kept.{ProgramTable, program_tree}
 use Rattle.xd_check_steps.specs.Found.{AddsFound, Found}
 use Rattle.xd_check_steps.specs.FoundLines.{told_size}
@@ -29,7 +30,7 @@ misfit_lines P S e T p k a s t m f ls h =
 
 -- an argument that has a parameter
 pub argument_step : (P : ProgramTree) (S : Scope) (e : Expression) (es : List Expression) (q : Parameter) (qs : List Parameter) (xs ms : List Line) →
-    Both (LinesOf told_size P S e) (LineWhere told_size (place_of_expression e) wrong_argument (Misfits P S e q.declared)) xs → LinesOfArguments told_size P S qs (arguments_of es) ms →
+    InTurn (LinesOf told_size P S e) (LineWhere told_size (place_of_expression e) wrong_argument (Misfits P S e q.declared)) xs → LinesOfArguments told_size P S qs (arguments_of es) ms →
     LinesOfArguments told_size P S (q ∷ qs) (arguments_of (e ∷ es)) (xs ++ ms)
 argument_step P S e es q qs xs ms h r = (h.0, h.1 ++ ms, h.2, (h.1, ms, h.3, r, refl), ap (λ ys. ys ++ ms) h.4 ∙ append_assoc h.0 h.1 ms)
 

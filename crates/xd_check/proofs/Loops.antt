@@ -15,7 +15,8 @@ use Rattle.xd_syntax.specs.Exprs.{expr_numbers}
 use Rattle.xd_syntax.specs.Program.{Parameter, ProgramTree, names_of}
 use Rattle.xd_syntax.specs.Kept.{ProgramTable, program_tree}
 use Rattle.xd_syntax.specs.May.{Scope, May}
-use Rattle.xd_syntax.specs.CheckFaults.{Line, LineWhere, Both, LinesOf, LinesOfArguments, wrong_argument}
+use Rattle.xd_syntax.specs.CheckFaults.{Line, LineWhere, LinesOf, LinesOfArguments, wrong_argument}
+use Rattle.xd_syntax.specs.Order.{InTurn}
 use Rattle.xd_syntax.specs.declared.exprs.ExprId.{ExprId}
 use Rattle.xd_check_steps.specs.declared.variables.Variable.{Variable}
 use Rattle.xd_check_steps.specs.Found.{AddsFound, Found, InOrder, JustLines, Seen, followed}
@@ -167,7 +168,7 @@ parameter_at E a (q ∷ qs) (t ∷ ts) (suc n) h = next E a q t qs ts n (paramet
 -- that are left
 module _ (P : ProgramTree) (S : Scope) (e : Expression) (es : List Expression) (a : Automaton) (s : State) (may : AcceptsJust a s (May P S e)) where
   argument_lines : (qs : List Parameter) (ts : List State) (n : ℕ) → HasParameter (names_of P) a qs ts n → (xs ms : List Line) →
-      Both (LinesOf told_size P S e) (LinesOfArgument a (place_of_expression e) s (slice_get ts n)) xs → LinesOfArguments told_size P S (drop (n + 1) qs) (arguments_of es) ms →
+      InTurn (LinesOf told_size P S e) (LinesOfArgument a (place_of_expression e) s (slice_get ts n)) xs → LinesOfArguments told_size P S (drop (n + 1) qs) (arguments_of es) ms →
       LinesOfArguments told_size P S (drop n qs) (arguments_of (e ∷ es)) (xs ++ ms)
   argument_lines qs ts n (has_one q t d f i) xs ms b r =
       let c : LineWhere told_size (place_of_expression e) wrong_argument (IsMisfit a s t) b.1 = subst (λ o. LinesOfArgument a (place_of_expression e) s o b.1) f b.3 in

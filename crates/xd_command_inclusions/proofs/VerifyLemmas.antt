@@ -6,7 +6,7 @@ use Rattle.xd_base.specs.Outside.{HasRisen}
 use Rattle.xd_syntax.specs.Program.{ProgramTree, names_of}
 use Rattle.xd_syntax.specs.Table.{Row}
 use Rattle.xd_meaning.specs.Consistent.{ClaimHolds, IsConsistent}
-use Rattle.xd_meaning.specs.Breach.{Lined, goals_of}
+use Rattle.xd_meaning.specs.Violation.{Lined, goals_of}
 use Rattle.xd_proof.specs.Goals.{AreGoalsAt}
 use Rattle.xd_proof.specs.declared.proof.ProofGoal.{ProofGoal}
 use Rattle.xd_proof_write.specs.ClaimText.{claim_text}

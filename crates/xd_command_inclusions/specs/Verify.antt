@@ -2,7 +2,7 @@
 use Rattle.std.specs.Prelude.{◌≡◌, ◌⊎◌, ℕ, List, ◌∷◌, ◌++◌, codes}
 use Rattle.xd_syntax.specs.Program.{ProgramTree, names_of}
 use Rattle.xd_meaning.specs.Consistent.{ClaimHolds, IsConsistent}
-use Rattle.xd_meaning.specs.Breach.{Lined, Reason, goals_of, IsFirstBreach}
+use Rattle.xd_meaning.specs.Violation.{Lined, Reason, goals_of, IsFirstViolation}
 use Rattle.xd_proof_write.specs.ClaimText.{claim_text}
 use Rattle.xd_proof_write.specs.SecondText.{second_text_of}
 use Rattle.xd_command_steps.specs.Output.{Output}
@@ -21,7 +21,7 @@ pub record IsProved (P : ProgramTree) (goals : List Lined) (o : Output) : Type 0
 
 -- The proof is consistent, and its claim holds; or a line breaks a rule, which is the first one.
 abbrev pub Judges : ProgramTree → List Lined → Output → Type 0
-Judges P goals o = IsProved P goals o ⊎ ((n : ℕ) × (reason : Reason) × IsFirstBreach (names_of P) goals n reason × (o ≡ bad_line n reason))
+Judges P goals o = IsProved P goals o ⊎ ((n : ℕ) × (reason : Reason) × IsFirstViolation (names_of P) goals n reason × (o ≡ bad_line n reason))
 
 abbrev pub AnswersVerify : Holding → (rose : Type 0) → (proof : List ℕ) → ProgramTree → Output → Type 0
 AnswersVerify holds rose proof P o = Step (EndsAtProof holds rose proof P) (IsProof holds proof P) (Judges P) o

@@ -11,11 +11,11 @@ use Rattle.xd_syntax.specs.Tree.{Tree}
 use Rattle.xd_syntax.specs.Program.{ProgramTree, names_of}
 use Rattle.xd_syntax.specs.Sound.{is_defined, type_named}
 use Rattle.xd_syntax.specs.CheckFaults.{Line, dead_clause, is_warning, faults_among, IsAccepted}
-use Rattle.xd_meaning.specs.Breach.{Lined}
+use Rattle.xd_meaning.specs.Violation.{Lined}
 use Rattle.xd_meaning.specs.KeptFaults.{AllPaired}
 use Rattle.xd_meaning.specs.Meaning.{Done, Spent}
 use Rattle.xd_laws.specs.SameLines.{IsSameLine}
-use Rattle.xd_laws.proofs.BreachLaw.{rules_are_tested, breach_is_one}
+use Rattle.xd_laws.proofs.ViolationLaw.{rules_are_tested, violation_is_one}
 use Rattle.xd_laws.proofs.OneLines.{lines_are_one}
 use Rattle.xd_report.specs.Report.{place_front}
 use Rattle.xd_proof_write.specs.ClaimText.{claim_text}
@@ -155,7 +155,7 @@ judges_alike P goals o p (inl a) (inl b) =
 judges_alike P goals o p (inl a) (inr b) = absurd ((rules_are_tested (names_of P) goals).1 a.consistent b.0 b.1 b.2)
 judges_alike P goals o p (inr a) (inl b) = absurd ((rules_are_tested (names_of P) goals).1 b.consistent a.0 a.1 a.2)
 judges_alike P goals o p (inr a) (inr b) =
-    let one = breach_is_one (names_of P) goals a.0 b.0 a.1 b.1 a.2 b.2 in
+    let one = violation_is_one (names_of P) goals a.0 b.0 a.1 b.1 a.2 b.2 in
     inl (a.3 ∙ ap (λ n. bad_line n a.1) one.0 ∙ ap (bad_line b.0) one.1 ∙ sym b.3)
 
 pub verify_alike : (texts : Texts) (proof : List ℕ) (P : ProgramTree) → IsOneRow Never (AnswersVerify (Some texts) ⊥ proof P)

@@ -12,7 +12,7 @@ use Rattle.xd_grammar.specs.declared.grammar.Nonterminal.TheVariants.{Definition
 use Rattle.xd_parse.proofs.FirstFaults.{first_faults_are_one}
 use Rattle.xd_parse.proofs.Sure.{texts_mean_one_thing}
 use Rattle.xd_rec.proofs.Recursion.{one_list}
-use Rattle.xd_meaning.specs.Breach.{Lined, bad_form}
+use Rattle.xd_meaning.specs.Violation.{Lined, bad_form}
 use Rattle.xd_proof.proofs.TheLaws.{first_bad_line_is_one, proof_texts_are_one}
 use Rattle.xd_command_steps.specs.Output.{Output, fault_lines, malformed_document}
 use Rattle.xd_command_steps.specs.Texts.{EndsAtText, IsText, program_limit, document_limit}

@@ -2,7 +2,7 @@
 use Rattle.std.specs.Prelude.{◌≡◌, ◌≢◌, ℕ, List, Option, Some}
 use Rattle.xd_doc.specs.Document.{Document}
 use Rattle.xd_syntax.specs.Program.{ProgramTree}
-use Rattle.xd_meaning.specs.Breach.{Lined}
+use Rattle.xd_meaning.specs.Violation.{Lined}
 use Rattle.xd_command_steps.specs.Output.{Output}
 use Rattle.xd_command_steps.specs.Texts.{EndsAtText, IsText}
 use Rattle.xd_command_steps.specs.Programs.{EndsAtProgram, IsProgram}

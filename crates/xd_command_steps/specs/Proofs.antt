@@ -2,7 +2,7 @@
 use Rattle.std.specs.Prelude.{◌≡◌, ◌⊎◌, ℕ, List, ◌++◌, codes, decimal}
 use Rattle.xd_syntax.specs.NameFaults.{known_types}
 use Rattle.xd_syntax.specs.Program.{ProgramTree}
-use Rattle.xd_meaning.specs.Breach.{Lined, Reason, bad_form, bad_empty, bad_case, bad_split, bad_leaf}
+use Rattle.xd_meaning.specs.Violation.{Lined, Reason, bad_form, bad_empty, bad_case, bad_split, bad_leaf}
 use Rattle.xd_proof.specs.Form.{IsProofText, IsFirstBadLine}
 use Rattle.xd_proof.specs.TypeTexts.{SpellsType}
 use Rattle.xd_command_steps.specs.Output.{Output}

@@ -9,7 +9,7 @@ ghost use Rattle.xd_doc.specs.StoredSeq.{BelongsTo};
 ghost use Rattle.xd_report.specs.Carries.{CarriesFrom};
 ghost use Rattle.xd_report.specs.Report.{place_front};
 ghost use Rattle.xd_syntax.specs.declared.fault.FaultKind.TheVariants.{NoMain, NoSuchName};
-ghost use Rattle.xd_meaning.specs.Breach.{Lined, goals_of};
+ghost use Rattle.xd_meaning.specs.Violation.{Lined, goals_of};
 ghost use Rattle.xd_proof.specs.Goals.{AreGoalsAt, GoalsBelong};
 ghost use Rattle.xd_proof_check.specs.Reasons.{reason_of};
 ghost use Rattle.xd_proof_write.specs.ClaimText.{claim_text};

@@ -4,7 +4,8 @@ use Rattle.std.specs.Str.{bytes_eq}
 use Rattle.std.specs.List.{AllByRecursion}
 use Rattle.xd_doc.proofs.Lists.{all_append}
 use Rattle.xd_syntax.specs.Tree.{Tree, Empty, Text, Words, Name, Elem, Seq, Alt, Star, Plus, Opt, Val, Definitions, body, seq_of, is_empty}
-use Rattle.xd_syntax.specs.TypeText.{Level, any_type_level, sequence_level, postfix_level, primary_level, alternative_wants, sequence_wants, postfix_wants, deeper, depth_at_level, depth}
+use Rattle.xd_syntax.specs.TypeText.{Level, any_type_level, sequence_level, postfix_level, primary_level, alternative_wants, sequence_wants, postfix_wants}
+use Rattle.xd_syntax.specs.TypeDepth.{depth, depth_at_level, deeper}
 use Rattle.xd_sound.proofs.Reached.{sequence_below_postfix}
 use Rattle.xd_meaning.specs.CanBeEmpty.{can_be_empty}
 use Rattle.xd_meaning.specs.Heads.{pieces}

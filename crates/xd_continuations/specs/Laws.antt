@@ -14,7 +14,7 @@ use Rattle.xd_syntax.specs.Kept.{ProgramTable, program_tree}
 use Rattle.xd_syntax.specs.declared.types.TypeDef.{TypeDef}
 use Rattle.xd_auto.specs.Automaton.{Automaton, accepts}
 use Rattle.xd_auto.specs.declared.auto.State.{State}
-use Rattle.xd_syntax.specs.TypeText.{depth}
+use Rattle.xd_syntax.specs.TypeDepth.{depth}
 use Rattle.xd_continuations.specs.Depths.{NoneDeeper, IsNoDeeper}
 use Rattle.xd_continuations.specs.Mirrors.{Continuations, AreMirrors}
 use Rattle.xd_continuations.specs.Continuation.{Move, moves, head_of, IsMerged, AreMerged, IsContinuation}

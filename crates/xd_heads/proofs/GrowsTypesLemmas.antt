@@ -1,7 +1,7 @@
 -- A program that gets more types, in steps.
 use Rattle.std.proofs.Common.{◌≡◌, ◌≤◌, [], refl, ap, sym, subst, ◌∙◌, append-nil}
 use Rattle.xd_syntax.specs.Tree.{Tree}
-use Rattle.xd_syntax.specs.TypeText.{depth}
+use Rattle.xd_syntax.specs.TypeDepth.{depth}
 use Rattle.xd_syntax.specs.Kept.{ProgramTable, AddsTypes, program_tree}
 use Rattle.xd_syntax.specs.ShallowTables.{IsShallow}
 use Rattle.xd_syntax.specs.Shallow.{nesting_limit}

@@ -5,7 +5,7 @@ use Rattle.std.specs.HashMap.{HashMap, get}
 use Rattle.std.specs.List.{AllByRecursion}
 use Rattle.xd_doc.proofs.Lists.{all_more, all_append, map_append}
 use Rattle.xd_syntax.specs.Tree.{Tree, Empty, Text, Words, Name, Elem, Seq, Alt, Star, Plus, Opt, Val, Definitions, seq_of}
-use Rattle.xd_syntax.specs.TypeText.{depth}
+use Rattle.xd_syntax.specs.TypeDepth.{depth}
 use Rattle.xd_syntax.specs.ShallowTables.{IsShallow}
 use Rattle.xd_syntax.specs.Shallow.{nesting_limit}
 use Rattle.xd_syntax.specs.Table.{Row, AreBuilt, KeepsRows, tree_at}

@@ -4,7 +4,7 @@ use Rattle.std.specs.List.{AllByRecursion}
 use Rattle.xd_doc.proofs.Lists.{all_more, all_append}
 use Rattle.xd_syntax.specs.Tree.{Tree, Definitions, seq_of}
 use Rattle.xd_syntax.specs.Table.{Row, KeepsRows, tree_at}
-use Rattle.xd_syntax.specs.TypeText.{depth}
+use Rattle.xd_syntax.specs.TypeDepth.{depth}
 use Rattle.xd_syntax.specs.ShallowTables.{IsShallow}
 use Rattle.xd_syntax.specs.Shallow.{nesting_limit}
 use Rattle.xd_meaning.specs.CanBeEmpty.{can_be_empty}

@@ -14,7 +14,7 @@ ghost use Rattle.xd_syntax.specs.SoundTables.{IsTypeAt};
 ghost use Rattle.xd_syntax.specs.Table.{tree_at};
 ghost use Rattle.xd_syntax.specs.Tree.{any_type, seq_of};
 ghost use Rattle.xd_sound.specs.TypeNames.{AreNumbered};
-ghost use Rattle.xd_syntax.specs.TypeText.{depth};
+ghost use Rattle.xd_syntax.specs.TypeDepth.{depth};
 ghost use Rattle.xd_syntax.specs.Types.{BelongsTo, tree};
 ghost use Rattle.xd_syntax.specs.declared.types.TypeId.{TypeId};
 ghost use Rattle.xd_moves.specs.Cells.{StayChosen};

@@ -9,7 +9,7 @@ ghost use Rattle.xd_syntax.specs.Shallow.{nesting_limit};
 ghost use Rattle.xd_syntax.specs.SoundTables.{IsTypeAt};
 ghost use Rattle.xd_syntax.specs.Table.{tree_at};
 ghost use Rattle.xd_syntax.specs.Tree.{Plus, seq_of};
-ghost use Rattle.xd_syntax.specs.TypeText.{depth};
+ghost use Rattle.xd_syntax.specs.TypeDepth.{depth};
 ghost use Rattle.xd_syntax.specs.Types.{BelongsTo, tree, type_numbers};
 ghost use Rattle.xd_moves.specs.Found.{AreOfTypes, continuation, is_plus};
 ghost use Rattle.xd_moves.specs.Pieces.{piece_tree};

@@ -5,7 +5,7 @@ use Rattle.xd_syntax.specs.Tree.{Definitions, Tree}
 use Rattle.xd_syntax.specs.Fits.{Fits}
 use Rattle.xd_syntax.specs.NameFaults.{known_types}
 use Rattle.xd_syntax.specs.Program.{ProgramTree, names_of}
-use Rattle.xd_meaning.specs.Breach.{Lined, goals_of}
+use Rattle.xd_meaning.specs.Violation.{Lined, goals_of}
 use Rattle.xd_meaning.specs.Consistent.{Goal, IsConsistent}
 use Rattle.xd_rules.specs.Rules.{numbered}
 use Rattle.xd_proof.specs.Form.{IsProofText}

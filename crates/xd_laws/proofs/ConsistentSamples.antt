@@ -1,4 +1,4 @@
--- Proofs of inclusions that are consistent, and the first breach of proofs with one line changed.
+-- Proofs of inclusions that are consistent, and the first violation of proofs with one line changed.
 use Rattle.std.proofs.Common.{ℕ, true, false, List, [], ◌∷◌, Some, None, refl}
 use Rattle.std.specs.Prelude.{codes}
 use Rattle.xd_syntax.specs.Tree.{Tree, Empty, Text, Words, Name, Elem, Alt, Definitions, environment, all_labels}
@@ -7,8 +7,8 @@ use Rattle.xd_meaning.specs.Heads.{heads}
 use Rattle.xd_rules.specs.declared.atom.Atom.TheVariants as atoms
 use Rattle.xd_rules.specs.Rules.{ChoiceTree, settles_content, settles_rest, split_on, Case}
 use Rattle.xd_meaning.specs.Consistent.{IsConsistent}
-use Rattle.xd_meaning.specs.Breach.{bad_empty, bad_case, bad_split, bad_leaf, Lined, goals_of, IsFirstBreach}
-use Rattle.xd_laws.proofs.BreachLaw.{first_is, none_is}
+use Rattle.xd_meaning.specs.Violation.{bad_empty, bad_case, bad_split, bad_leaf, Lined, goals_of, IsFirstViolation}
+use Rattle.xd_laws.proofs.ViolationLaw.{first_is, none_is}
 
 abbrev a : List ℕ
 a = codes "a"
@@ -63,28 +63,28 @@ unfolding heads can_be_empty
 distributes = none_is left_and_right (with_choice (split_on 1 (split_on 2 (settles_content 2) (settles_rest 3)) (settles_rest 3))) refl
 
 -- the second goal has a right that is not on the content side
-one_side_short : IsFirstBreach left_and_right (with_choice (split_on 1 (settles_content 2) (settles_rest 3))) 6 bad_leaf
+one_side_short : IsFirstViolation left_and_right (with_choice (split_on 1 (settles_content 2) (settles_rest 3))) 6 bad_leaf
 unfolding heads can_be_empty
 one_side_short = first_is _ _ _ _ refl
 
-rest_with_no_head : IsFirstBreach left_and_right (with_choice (settles_rest 3)) 6 bad_leaf
+rest_with_no_head : IsFirstViolation left_and_right (with_choice (settles_rest 3)) 6 bad_leaf
 unfolding heads can_be_empty
 rest_with_no_head = first_is _ _ _ _ refl
 
-no_such_goal : IsFirstBreach left_and_right (with_choice (split_on 1 (split_on 2 (settles_content 2) (settles_rest 4)) (settles_rest 3))) 6 bad_leaf
+no_such_goal : IsFirstViolation left_and_right (with_choice (split_on 1 (split_on 2 (settles_content 2) (settles_rest 4)) (settles_rest 3))) 6 bad_leaf
 unfolding heads can_be_empty
 no_such_goal = first_is _ _ _ _ refl
 
-split_twice : IsFirstBreach left_and_right (with_choice (split_on 1 (split_on 1 (settles_content 2) (settles_rest 3)) (settles_rest 3))) 6 bad_split
+split_twice : IsFirstViolation left_and_right (with_choice (split_on 1 (split_on 1 (settles_content 2) (settles_rest 3)) (settles_rest 3))) 6 bad_split
 unfolding heads can_be_empty
 split_twice = first_is _ _ _ _ refl
 
-no_such_head : IsFirstBreach left_and_right (with_choice (split_on 3 (settles_content 2) (settles_rest 3))) 6 bad_split
+no_such_head : IsFirstViolation left_and_right (with_choice (split_on 3 (settles_content 2) (settles_rest 3))) 6 bad_split
 unfolding heads can_be_empty
 no_such_head = first_is _ _ _ _ refl
 
 -- in a line the tree's first fault from the left counts
-leaf_before_split : IsFirstBreach left_and_right (with_choice (split_on 1 (settles_content 3) (split_on 1 (settles_rest 3) (settles_rest 3)))) 6 bad_leaf
+leaf_before_split : IsFirstViolation left_and_right (with_choice (split_on 1 (settles_content 3) (split_on 1 (settles_rest 3) (settles_rest 3)))) 6 bad_leaf
 unfolding heads can_be_empty
 leaf_before_split = first_is _ _ _ _ refl
 
@@ -92,42 +92,42 @@ abbrev with_second : List Case → List Lined
 with_second cs =
     first_goal (label_case 1 a (split_on 1 (split_on 2 (settles_content 2) (settles_rest 3)) (settles_rest 3)) ∷ []) ∷ second_goal cs ∷ empty_goal 13 ∷ []
 
-split_of_another_label : IsFirstBreach left_and_right (with_second (label_case 1 b (split_on 2 (settles_content 3) (settles_rest 3)) ∷ [])) 11 bad_split
+split_of_another_label : IsFirstViolation left_and_right (with_second (label_case 1 b (split_on 2 (settles_content 3) (settles_rest 3)) ∷ [])) 11 bad_split
 unfolding heads can_be_empty
 split_of_another_label = first_is _ _ _ _ refl
 
 -- where the next goal begins
-case_left_out : IsFirstBreach left_and_right (with_second (label_case 1 b (split_on 1 (settles_content 3) (settles_rest 3)) ∷ [])) 12 bad_case
+case_left_out : IsFirstViolation left_and_right (with_second (label_case 1 b (split_on 1 (settles_content 3) (settles_rest 3)) ∷ [])) 12 bad_case
 unfolding heads can_be_empty
 case_left_out = first_is _ _ _ _ refl
 
-wrong_label : IsFirstBreach left_and_right (with_second (label_case 1 c (settles_rest 3) ∷ [])) 11 bad_case
+wrong_label : IsFirstViolation left_and_right (with_second (label_case 1 c (settles_rest 3) ∷ [])) 11 bad_case
 unfolding heads can_be_empty
 wrong_label = first_is _ _ _ _ refl
 
-wrong_head_number : IsFirstBreach left_and_right (with_second (label_case 2 b (settles_rest 3) ∷ [])) 11 bad_case
+wrong_head_number : IsFirstViolation left_and_right (with_second (label_case 2 b (settles_rest 3) ∷ [])) 11 bad_case
 unfolding heads can_be_empty
 wrong_head_number = first_is _ _ _ _ refl
 
 -- Lines on being empty.
 
-empty_left_out : IsFirstBreach left_and_right (goal_at 3 Empty (Empty ∷ []) [] ∷ []) 6 bad_empty
+empty_left_out : IsFirstViolation left_and_right (goal_at 3 Empty (Empty ∷ []) [] ∷ []) 6 bad_empty
 unfolding heads can_be_empty
 empty_left_out = first_is _ _ _ _ refl
 
-empty_of_no_right : IsFirstBreach left_and_right (record { line = 3; goal = record { left = Empty; rights = Empty ∷ []; empty_right = Some 2; cases = [] } } ∷ []) 6 bad_empty
+empty_of_no_right : IsFirstViolation left_and_right (record { line = 3; goal = record { left = Empty; rights = Empty ∷ []; empty_right = Some 2; cases = [] } } ∷ []) 6 bad_empty
 unfolding heads can_be_empty
 empty_of_no_right = first_is _ _ _ _ refl
 
-empty_of_a_filled_right : IsFirstBreach left_and_right (record { line = 3; goal = record { left = Empty; rights = tag a Empty ∷ Empty ∷ []; empty_right = Some 1; cases = [] } } ∷ []) 7 bad_empty
+empty_of_a_filled_right : IsFirstViolation left_and_right (record { line = 3; goal = record { left = Empty; rights = tag a Empty ∷ Empty ∷ []; empty_right = Some 1; cases = [] } } ∷ []) 7 bad_empty
 unfolding heads can_be_empty
 empty_of_a_filled_right = first_is _ _ _ _ refl
 
-empty_of_a_filled_left : IsFirstBreach left_and_right (record { line = 3; goal = record { left = tag a Empty; rights = Empty ∷ []; empty_right = Some 1; cases = [] } } ∷ []) 6 bad_empty
+empty_of_a_filled_left : IsFirstViolation left_and_right (record { line = 3; goal = record { left = tag a Empty; rights = Empty ∷ []; empty_right = Some 1; cases = [] } } ∷ []) 6 bad_empty
 unfolding heads can_be_empty
 empty_of_a_filled_left = first_is _ _ _ _ refl
 
-case_too_many : IsFirstBreach left_and_right (record { line = 3; goal = record { left = Empty; rights = Empty ∷ []; empty_right = Some 1; cases = label_case 1 a (settles_content 1) ∷ [] } } ∷ []) 7 bad_case
+case_too_many : IsFirstViolation left_and_right (record { line = 3; goal = record { left = Empty; rights = Empty ∷ []; empty_right = Some 1; cases = label_case 1 a (settles_content 1) ∷ [] } } ∷ []) 7 bad_case
 unfolding heads can_be_empty
 case_too_many = first_is _ _ _ _ refl
 
@@ -147,11 +147,11 @@ unfolding heads can_be_empty
 rests_on_itself = none_is endless (nothing_fits (label_case 1 n (settles_content 2) ∷ [])) refl
 
 -- the first goal has a right that no head on the path has
-wrong_goal_named : IsFirstBreach endless (nothing_fits (label_case 1 n (settles_content 1) ∷ [])) 9 bad_leaf
+wrong_goal_named : IsFirstViolation endless (nothing_fits (label_case 1 n (settles_content 1) ∷ [])) 9 bad_leaf
 unfolding heads can_be_empty
 wrong_goal_named = first_is _ _ _ _ refl
 
-no_case : IsFirstBreach endless (nothing_fits []) 9 bad_case
+no_case : IsFirstViolation endless (nothing_fits []) 9 bad_case
 unfolding heads can_be_empty
 no_case = first_is _ _ _ _ refl
 
@@ -165,15 +165,15 @@ text_settled : IsConsistent left_and_right (goals_of (text_goal (settles_rest 2)
 unfolding heads can_be_empty
 text_settled = none_is left_and_right (text_goal (settles_rest 2)) refl
 
-text_content : IsFirstBreach left_and_right (text_goal (settles_content 2)) 6 bad_split
+text_content : IsFirstViolation left_and_right (text_goal (settles_content 2)) 6 bad_split
 unfolding heads can_be_empty
 text_content = first_is _ _ _ _ refl
 
-text_split : IsFirstBreach left_and_right (text_goal (split_on 2 (settles_rest 2) (settles_rest 2))) 6 bad_split
+text_split : IsFirstViolation left_and_right (text_goal (split_on 2 (settles_rest 2) (settles_rest 2))) 6 bad_split
 unfolding heads can_be_empty
 text_split = first_is _ _ _ _ refl
 
-text_of_no_right : IsFirstBreach left_and_right (goal_at 3 Text (tag a Empty ∷ []) (text_case 1 (settles_rest 2) ∷ []) ∷ empty_goal 7 ∷ []) 6 bad_leaf
+text_of_no_right : IsFirstViolation left_and_right (goal_at 3 Text (tag a Empty ∷ []) (text_case 1 (settles_rest 2) ∷ []) ∷ empty_goal 7 ∷ []) 6 bad_leaf
 unfolding heads can_be_empty
 text_of_no_right = first_is _ _ _ _ refl
 
@@ -186,11 +186,11 @@ each_label : IsConsistent left_and_right (goals_of (any_label_goal (label_case 1
 unfolding heads can_be_empty
 each_label = none_is left_and_right (any_label_goal (label_case 1 a (split_on 1 (settles_content 2) (settles_rest 2)) ∷ other_case 1 (split_on 2 (settles_content 2) (settles_rest 2)) ∷ [])) refl
 
-others_are_not_named : IsFirstBreach left_and_right (any_label_goal (label_case 1 a (split_on 1 (settles_content 2) (settles_rest 2)) ∷ other_case 1 (split_on 1 (settles_content 2) (settles_rest 2)) ∷ [])) 7 bad_split
+others_are_not_named : IsFirstViolation left_and_right (any_label_goal (label_case 1 a (split_on 1 (settles_content 2) (settles_rest 2)) ∷ other_case 1 (split_on 1 (settles_content 2) (settles_rest 2)) ∷ [])) 7 bad_split
 unfolding heads can_be_empty
 others_are_not_named = first_is _ _ _ _ refl
 
-others_left_out : IsFirstBreach left_and_right (any_label_goal (label_case 1 a (split_on 1 (settles_content 2) (settles_rest 2)) ∷ [])) 7 bad_case
+others_left_out : IsFirstViolation left_and_right (any_label_goal (label_case 1 a (split_on 1 (settles_content 2) (settles_rest 2)) ∷ [])) 7 bad_case
 unfolding heads can_be_empty
 others_left_out = first_is _ _ _ _ refl
 
@@ -224,15 +224,15 @@ each_text : IsConsistent left_and_right (goals_of (each_text_goal (this_text_cas
 unfolding heads can_be_empty
 each_text = none_is left_and_right (each_text_goal (this_text_case 1 a (settles_rest 2) ∷ text_case 1 (settles_rest 2) ∷ [])) refl
 
-other_texts_left_out : IsFirstBreach left_and_right (each_text_goal (this_text_case 1 a (settles_rest 2) ∷ [])) 8 bad_case
+other_texts_left_out : IsFirstViolation left_and_right (each_text_goal (this_text_case 1 a (settles_rest 2) ∷ [])) 8 bad_case
 unfolding heads can_be_empty
 other_texts_left_out = first_is _ _ _ _ refl
 
 -- String within "a": other texts have no right head
-text_not_named : IsFirstBreach left_and_right (goal_at 3 Text (only_text a ∷ []) (this_text_case 1 a (settles_rest 2) ∷ text_case 1 (settles_rest 2) ∷ []) ∷ empty_goal 8 ∷ []) 7 bad_leaf
+text_not_named : IsFirstViolation left_and_right (goal_at 3 Text (only_text a ∷ []) (this_text_case 1 a (settles_rest 2) ∷ text_case 1 (settles_rest 2) ∷ []) ∷ empty_goal 8 ∷ []) 7 bad_leaf
 unfolding heads can_be_empty
 text_not_named = first_is _ _ _ _ refl
 
-split_of_a_text : IsFirstBreach left_and_right (goal_at 3 (only_text a) (Text ∷ []) (this_text_case 1 a (split_on 1 (settles_rest 2) (settles_rest 2)) ∷ []) ∷ empty_goal 7 ∷ []) 6 bad_split
+split_of_a_text : IsFirstViolation left_and_right (goal_at 3 (only_text a) (Text ∷ []) (this_text_case 1 a (split_on 1 (settles_rest 2) (settles_rest 2)) ∷ []) ∷ empty_goal 7 ∷ []) 6 bad_split
 unfolding heads can_be_empty
 split_of_a_text = first_is _ _ _ _ refl

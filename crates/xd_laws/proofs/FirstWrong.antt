@@ -1,4 +1,4 @@
--- The first breach in a proof, computed.
+-- The first violation in a proof, computed.
 use Rattle.std.proofs.Common.{ℕ, ◌+◌, Bool, true, false, not, cond, ◌||◌, ◌&&◌, nat_eq, List, [], ◌∷◌, Option, Some, None}
 use Rattle.std.specs.Str.{bytes_eq}
 use Rattle.xd_syntax.specs.Tree.{Tree, Definitions}
@@ -10,7 +10,7 @@ use Rattle.xd_rules.specs.declared.atom.Atom.TheVariants.{Label, OtherLabel, Tex
 use Rattle.xd_rules.specs.Rules.{ChoiceTree, settles_content, settles_rest, split_on, Case, HeadAtom, wanted, numbered, matching, Sides, no_sides, on_content, on_rest}
 use Rattle.xd_meaning.specs.Consistent.{Goal, right_heads}
 pub use Rattle.xd_laws.specs.SameTree.{same_class, same_tree}
-use Rattle.xd_meaning.specs.Breach.{Reason, bad_empty, bad_case, bad_split, bad_leaf, Lined, line_behind, empty_lines, goals_of}
+use Rattle.xd_meaning.specs.Violation.{Reason, bad_empty, bad_case, bad_split, bad_leaf, Lined, line_behind, empty_lines, goals_of}
 
 abbrev pub same_atom : Atom → Atom → Bool
 same_atom (Label l) (Label m) = bytes_eq l m

@@ -10,8 +10,8 @@ use Rattle.xd_syntax.specs.Placed.{PlacedTree}
 use Rattle.xd_syntax.specs.Expression.{Expression, Nothing, Quoted, Variable, Tagged, Joined, Called, Matched, Arguments, no_argument, argument, Clauses, no_clause, clause, place_of_expression}
 use Rattle.xd_syntax.specs.Program.{Parameter, FunctionDefinition, ProgramTree, function_of}
 use Rattle.xd_syntax.specs.May.{Scope, clause_entry, parameters_scope}
-use Rattle.xd_syntax.specs.Order.{put_in, ordered_after}
-use Rattle.xd_syntax.specs.CheckFaults.{Line, LineKind, line_precedes, IsProperWith, LineWhere, Both, Misfits, wrong_argument, wrong_result, not_exhaustive, parameters_of, Comes, LinesOf, LinesOfArguments, LinesOfClauses, LinesOfFunction, LinesOfFunctions, AreLines, AreLinesBy, is_warning, faults_among}
+use Rattle.xd_syntax.specs.Order.{put_in, ordered_after, InTurn}
+use Rattle.xd_syntax.specs.CheckFaults.{Line, LineKind, line_precedes, IsProperWith, LineWhere, Misfits, wrong_argument, wrong_result, not_exhaustive, parameters_of, Comes, LinesOf, LinesOfArguments, LinesOfClauses, LinesOfFunction, LinesOfFunctions, AreLines, AreLinesBy, is_warning, faults_among}
 use Rattle.xd_laws.specs.LeastLines.{IsSmall, SmallLinesAreLeast}
 
 module _ (limit : ℕ) where
@@ -51,7 +51,7 @@ module _ (limit : ℕ) where
   nothing_turns : Turns (λ ls. ls ≡ []) (λ ls. ls ≡ [])
   nothing_turns ls b h = h
 
-  both_turn : (A B F G : List Line → Type 0) → Turns A B → Turns F G → Turns (Both A F) (Both B G)
+  both_turn : (A B F G : List Line → Type 0) → Turns A B → Turns F G → Turns (InTurn A F) (InTurn B G)
   both_turn A B F G f g ls b h = let s = small_both h.0 h.1 (subst AreSmall h.4 b) in (h.0, h.1, f h.0 s.0 h.2, g h.1 s.1 h.3, h.4)
 
   line_turns : (p : Place) (k : LineKind) (A : Document → Type 0) → is_warning k ≡ false → Turns (LineWhere (size_up_to limit) p k A) (LineWhere size p k A)
@@ -84,7 +84,7 @@ module _ (limit : ℕ) where
         let A : Document → Type 0 = Misfits P S e q.declared in
         let p : Place = place_of_expression e in
         both_turn (LinesOf (size_up_to limit) P S e) (LinesOf size P S e)
-        (Both (LineWhere (size_up_to limit) p wrong_argument A) (LinesOfArguments (size_up_to limit) P S qs es)) (Both (LineWhere size p wrong_argument A) (LinesOfArguments size P S qs es))
+        (InTurn (LineWhere (size_up_to limit) p wrong_argument A) (LinesOfArguments (size_up_to limit) P S qs es)) (InTurn (LineWhere size p wrong_argument A) (LinesOfArguments size P S qs es))
         (λ ms c k. expression_turns P S e ms c k)
         (λ ms c k. both_turn (LineWhere (size_up_to limit) p wrong_argument A) (LineWhere size p wrong_argument A) (LinesOfArguments (size_up_to limit) P S qs es) (LinesOfArguments size P S qs es)
         (λ ks d j. line_turns p wrong_argument A refl ks d j) (λ ks d j. arguments_turn P S qs es ks d j) ms c k) ls b h

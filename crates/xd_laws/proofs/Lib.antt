@@ -18,7 +18,7 @@ mod TelephoneSamples
 mod ConsistentSamples
 pub mod FirstWrong
 pub mod SameTrees
-pub mod BreachLaw
+pub mod ViolationLaw
 pub mod Claims
 pub mod ConsistentLaw
 pub mod WordLists

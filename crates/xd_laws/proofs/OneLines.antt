@@ -8,9 +8,9 @@ use Rattle.xd_syntax.specs.Placed.{PlacedTree, place_of}
 use Rattle.xd_syntax.specs.Expression.{Expression, Nothing, Quoted, Variable, Tagged, Joined, Called, Matched, Arguments, no_argument, argument, Clauses, no_clause, clause, place_of_expression}
 use Rattle.xd_syntax.specs.Program.{Parameter, FunctionDefinition, ProgramTree, function_of}
 use Rattle.xd_syntax.specs.May.{Scope, clause_entry, parameters_scope}
-use Rattle.xd_syntax.specs.Order.{put_in, ordered_after}
+use Rattle.xd_syntax.specs.Order.{put_in, ordered_after, InTurn}
 use Rattle.xd_meaning.specs.KeptFaults.{AllPaired}
-use Rattle.xd_syntax.specs.CheckFaults.{Line, LineKind, line_precedes, lines_in_order, LineWhere, IsProperWith, Both, Misfits, dead_clause, wrong_argument, wrong_result, not_exhaustive, parameters_of, Comes, LinesOf, LinesOfArguments, LinesOfClauses, LinesOfFunction, LinesOfFunctions, AreLines, IsLiveIn}
+use Rattle.xd_syntax.specs.CheckFaults.{Line, LineKind, line_precedes, lines_in_order, LineWhere, IsProperWith, Misfits, dead_clause, wrong_argument, wrong_result, not_exhaustive, parameters_of, Comes, LinesOf, LinesOfArguments, LinesOfClauses, LinesOfFunction, LinesOfFunctions, AreLines, IsLiveIn}
 use Rattle.xd_laws.specs.SameLines.{IsSameLine, LinesAreOne}
 
 abbrev Same : List Line → List Line → Type 0
@@ -34,7 +34,7 @@ nothing_same : (ls ms : List Line) → ls ≡ [] → ms ≡ [] → Same ls ms
 nothing_same ls ms e f = along ls ms [] [] e f tt
 
 both_same : (A B : List Line → Type 0) → ((ls ms : List Line) → A ls → A ms → Same ls ms) → ((ls ms : List Line) → B ls → B ms → Same ls ms) →
-    (ls ms : List Line) → Both A B ls → Both A B ms → Same ls ms
+    (ls ms : List Line) → InTurn A B ls → InTurn A B ms → Same ls ms
 both_same A B f g ls ms a b =
     along ls ms (a.0 ++ a.1) (b.0 ++ b.1) a.4 b.4 (same_joined a.0 b.0 a.1 b.1 (f a.0 b.0 a.2 b.2) (g a.1 b.1 a.3 b.3))
 
@@ -66,7 +66,7 @@ mutual
   arguments_same P S [] (argument e es) ls ms a b =
       both_same (LinesOf size P S e) (LinesOfArguments size P S [] es) (λ ks js c d. expression_same P S e ks js c d) (λ ks js c d. arguments_same P S [] es ks js c d) ls ms a b
   arguments_same P S (q ∷ qs) (argument e es) ls ms a b =
-      both_same (LinesOf size P S e) (Both (LineWhere size (place_of_expression e) wrong_argument (Misfits P S e q.declared)) (LinesOfArguments size P S qs es))
+      both_same (LinesOf size P S e) (InTurn (LineWhere size (place_of_expression e) wrong_argument (Misfits P S e q.declared)) (LinesOfArguments size P S qs es))
       (λ ks js c d. expression_same P S e ks js c d)
       (λ ks js c d. both_same (LineWhere size (place_of_expression e) wrong_argument (Misfits P S e q.declared)) (LinesOfArguments size P S qs es)
       (λ hs is c' d'. line_same (place_of_expression e) wrong_argument (Misfits P S e q.declared) hs is c' d') (λ hs is c' d'. arguments_same P S qs es hs is c' d') ks js c d) ls ms a b
@@ -165,8 +165,8 @@ pub match_alone : (P : ProgramTree) (f : FunctionDefinition) (p : Place) (e : Ex
 match_alone P f p e cs only same none fits ls a =
     let S : Scope = parameters_scope f.parameters in
     let m : LinesOfFunctions size P (f ∷ []) a.found = subst (λ fs. LinesOfFunctions size P fs a.found) only a.all in
-    let b : Both (LinesOf size P S (Matched p e cs)) (LineWhere size (place_of_expression (Matched p e cs)) wrong_result (Misfits P S (Matched p e cs) f.declared)) m.0 =
-    subst (λ g. Both (LinesOf size P S g) (LineWhere size (place_of_expression g) wrong_result (Misfits P S g f.declared)) m.0) same m.2 in
+    let b : InTurn (LinesOf size P S (Matched p e cs)) (LineWhere size (place_of_expression (Matched p e cs)) wrong_result (Misfits P S (Matched p e cs) f.declared)) m.0 =
+    subst (λ g. InTurn (LinesOf size P S g) (LineWhere size (place_of_expression g) wrong_result (Misfits P S g f.declared)) m.0) same m.2 in
     let i = no_such_line p wrong_result (Misfits P S (Matched p e cs) f.declared) b.1 fits b.3 in
     let j : (b.2).0 ≡ [] = nothing_left (b.2).0 (expression_same P S e (b.2).0 [] (b.2).2 none) in
     let found : a.found ≡ (b.2).1 = first_alone a.found m.0 m.1 m.4 m.3 ∙ first_alone m.0 b.0 b.1 b.4 i ∙ rest_alone b.0 (b.2).0 (b.2).1 (b.2).4 j in

@@ -12,7 +12,8 @@ use Rattle.xd_syntax.specs.Fits.{Split}
 use Rattle.xd_syntax.specs.Expression.{Expression, Nothing, Quoted, Variable, Tagged, Joined, Called, Matched, Arguments, no_argument, argument, Clauses, no_clause, clause, place_of_expression}
 use Rattle.xd_syntax.specs.Program.{Parameter, ProgramTree, names_of, function_of}
 use Rattle.xd_syntax.specs.May.{Scope, clause_entry, Allowance, IsTagged, IsLive, MayBind, WhereTrue, in_clause, MayBy, MayByClauses, Allows, May}
-use Rattle.xd_syntax.specs.CheckFaults.{Line, LineKind, LineWhere, IsProperWith, Both, Misfits, wrong_argument, not_exhaustive, parameters_of, Comes, IsLiveIn, LinesOf, LinesOfArguments, LinesOfClauses}
+use Rattle.xd_syntax.specs.CheckFaults.{Line, LineKind, LineWhere, IsProperWith, Misfits, wrong_argument, not_exhaustive, parameters_of, Comes, IsLiveIn, LinesOf, LinesOfArguments, LinesOfClauses}
+use Rattle.xd_syntax.specs.Order.{InTurn}
 use Rattle.xd_laws.specs.Scopes.{AllowTheSame, MoreIsAllowed, ScopesDecideMay, ScopesDecideLines}
 use Rattle.xd_laws.proofs.BoundVariables.{proper_joined}
 
@@ -103,7 +104,7 @@ comes_within P S Z h e earlier d p m = (m.0, first_way P S Z h e d p m.1, m.2)
 same_live : (P : ProgramTree) (S Z : Scope) → AllowTheSame P S Z → (e : Expression) (earlier : List PlacedTree) (Q : PlacedTree) → IsLiveIn P S e earlier Q → IsLiveIn P Z e earlier Q
 same_live P S Z h e earlier Q l = live_within (names_of P) (May P S e) (May P Z e) (first_way P S Z h e) earlier Q l
 
-both_within : (A B F G : List Line → Type 0) → ((ls : List Line) → A ls → B ls) → ((ls : List Line) → F ls → G ls) → (ls : List Line) → Both A F ls → Both B G ls
+both_within : (A B F G : List Line → Type 0) → ((ls : List Line) → A ls → B ls) → ((ls : List Line) → F ls → G ls) → (ls : List Line) → InTurn A F ls → InTurn B G ls
 both_within A B F G h k ls m = (m.0, m.1, h m.0 m.2, k m.1 m.3, m.4)
 
 mutual

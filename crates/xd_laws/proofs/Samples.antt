@@ -16,7 +16,8 @@ use Rattle.xd_meaning.specs.Bindings.{first_bindings}
 use Rattle.xd_meaning.specs.CanBeEmpty.{can_be_empty}
 use Rattle.xd_rules.specs.Heads.{Head, element_in, text_in}
 use Rattle.xd_meaning.specs.Heads.{heads, all_texts}
-use Rattle.xd_syntax.specs.TypeText.{type_text, depth}
+use Rattle.xd_syntax.specs.TypeText.{type_text}
+use Rattle.xd_syntax.specs.TypeDepth.{depth}
 use Rattle.xd_meaning.specs.Meaning.{Done, Spent, Stuck, meaning}
 use Rattle.xd_syntax.specs.NameFaults.{fault_at, name_faults, linearity_faults}
 use Rattle.xd_syntax.specs.RecursionFaults.{arrived, kept, left_out, all_seen, AreRecursionFaults, IsSound}

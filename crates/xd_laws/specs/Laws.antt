@@ -20,7 +20,7 @@ use Rattle.xd_syntax.specs.Program.{ProgramTree, names_of}
 use Rattle.xd_syntax.specs.RecursionFaults.{IsSound}
 use Rattle.xd_meaning.specs.Meaning.{Done, Environment, looked_up, meaning}
 use Rattle.xd_meaning.specs.Consistent.{Goal, IsConsistent, ClaimHolds}
-use Rattle.xd_meaning.specs.Breach.{Reason, Lined, goals_of, IsFirstBreach}
+use Rattle.xd_meaning.specs.Violation.{Reason, Lined, goals_of, IsFirstViolation}
 
 -- the binders dropped
 abbrev pub bare : Tree → Tree
@@ -73,17 +73,17 @@ FuelIsLeft = (P : ProgramTree) (n : ℕ) (d v : Document) (m : ℕ) → meaning 
 abbrev pub ConsistentProofsHold : Type 0
 ConsistentProofsHold = (P : ProgramTree) → IsSound P → (goals : List Goal) → IsConsistent (names_of P) goals → AllByRecursion (ClaimHolds (names_of P)) goals
 
--- a proof is consistent, or it has a first breach
-abbrev pub BreachesAreFound : Type 0
-BreachesAreFound = (E : Definitions) (ls : List Lined) → IsConsistent E (goals_of ls) ⊎ ((n : ℕ) × (r : Reason) × IsFirstBreach E ls n r)
+-- a proof is consistent, or it has a first violation
+abbrev pub ViolationsAreFound : Type 0
+ViolationsAreFound = (E : Definitions) (ls : List Lined) → IsConsistent E (goals_of ls) ⊎ ((n : ℕ) × (r : Reason) × IsFirstViolation E ls n r)
 
--- no line is a first breach exactly where the rules hold
+-- no line is a first violation exactly where the rules hold
 abbrev pub RulesAreTested : Type 0
-RulesAreTested = (E : Definitions) (ls : List Lined) → ((n : ℕ) (r : Reason) → IsFirstBreach E ls n r → ⊥) ↔ IsConsistent E (goals_of ls)
+RulesAreTested = (E : Definitions) (ls : List Lined) → ((n : ℕ) (r : Reason) → IsFirstViolation E ls n r → ⊥) ↔ IsConsistent E (goals_of ls)
 
--- there is one first breach at most
-abbrev pub BreachIsOne : Type 0
-BreachIsOne = (E : Definitions) (ls : List Lined) (n m : ℕ) (r q : Reason) → IsFirstBreach E ls n r → IsFirstBreach E ls m q → (n ≡ m) × (r ≡ q)
+-- there is one first violation at most
+abbrev pub ViolationIsOne : Type 0
+ViolationIsOne = (E : Definitions) (ls : List Lined) (n m : ℕ) (r q : Reason) → IsFirstViolation E ls n r → IsFirstViolation E ls m q → (n ≡ m) × (r ≡ q)
 
 -- a variable has the same document in both lists of a first match's bindings, or none in either
 abbrev pub BindingsAgree : Type 0

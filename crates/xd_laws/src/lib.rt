@@ -1,7 +1,7 @@
 //! Laws of the definitions, each the contract of a function that does nothing.
 #![tactic(auto)]
 
-ghost use Rattle.xd_laws.specs.Laws.{PatternsAreTypes, WaysSettle, FitsSettles, FitsIsWithinSome, HeadsDecide, EmptyDecides, HeadsSettle, FuelIsLeft, ConsistentProofsHold, BreachesAreFound, RulesAreTested, BreachIsOne, BindingsAgree, BindingsAreInOrder};
+ghost use Rattle.xd_laws.specs.Laws.{PatternsAreTypes, WaysSettle, FitsSettles, FitsIsWithinSome, HeadsDecide, EmptyDecides, HeadsSettle, FuelIsLeft, ConsistentProofsHold, ViolationsAreFound, RulesAreTested, ViolationIsOne, BindingsAgree, BindingsAreInOrder};
 ghost use Rattle.xd_laws.specs.Safety.{ValuesAreAllowed, CallsAreSafe, AcceptedProgramsAreSafe};
 ghost use Rattle.xd_laws.specs.LineSamples.{SampleLines};
 ghost use Rattle.xd_laws.specs.SameLines.{LinesAreOne};
@@ -45,12 +45,12 @@ pub fn consistent_proofs_hold()
     ensures { ConsistentProofsHold }
 {}
 
-/// A proof of inclusions is consistent exactly where it has no first breach of a rule, and it has
+/// A proof of inclusions is consistent exactly where it has no first violation of a rule, and it has
 /// one at most.
-pub fn breaches_are_first()
-    ensures found { BreachesAreFound }
+pub fn violations_are_first()
+    ensures found { ViolationsAreFound }
     ensures tested { RulesAreTested }
-    ensures one { BreachIsOne }
+    ensures one { ViolationIsOne }
 {}
 
 /// An accepted program is never stuck, and its values are of the types that it declares.

@@ -3,10 +3,12 @@ use Rattle.std.specs.Prelude.{ℕ, zero, suc, Bool, false, List, length, Option,
 use Rattle.xd_syntax.specs.Tree.{Tree, Definitions, body}
 use Rattle.xd_syntax.specs.Fits.{empty_by}
 
+-- whether it fits what a name is defined as
 abbrev pub empty_definition : (Tree → Bool) → Option Tree → Bool
 empty_definition F None = false
 empty_definition F (Some T) = F T
 
+-- whether it fits what a name stands for, within so many unfoldings
 abbrev pub empty_name : Definitions → ℕ → List ℕ → Bool
 empty_name E zero x = false
 empty_name E (suc n) x = empty_definition (empty_by (empty_name E n)) (body E x)

@@ -18,6 +18,7 @@ pub record Goal : Type 0 where
   pub empty_right : Option ℕ
   pub cases : List Case
 
+-- what a goal claims
 abbrev pub claim_of : Goal → Claim Tree
 claim_of g = record { left = g.left; rights = g.rights }
 
@@ -33,7 +34,9 @@ right_heads E g = flat_map (heads E) g.rights
 -- with this number.
 abbrev pub EmptyRule : Definitions → Goal → Option ℕ → Type 0
 EmptyRule E g None = can_be_empty E g.left ≡ false
-EmptyRule E g (Some n) = (can_be_empty E g.left ≡ true) × (T : Tree) × (numbered g.rights n ≡ Some T) × (can_be_empty E T ≡ true)
+EmptyRule E g (Some n) =
+    (can_be_empty E g.left ≡ true)
+    × (T : Tree) × (numbered g.rights n ≡ Some T) × (can_be_empty E T ≡ true)
 
 -- The rules of a goal: on the empty document; one case for each left head and each of its atoms, in
 -- order, and no other; and the trees of the cases.

@@ -4,6 +4,7 @@ use Rattle.xd_doc.specs.Document.{Document}
 use Rattle.xd_syntax.specs.Tree.{Tree, Definitions}
 use Rattle.xd_syntax.specs.Ways.{Way, is_whole, ways}
 
+-- what the first whole way binds
 abbrev pub first_whole : List Way → Option (List (List ℕ × Document))
 first_whole [] = None
 first_whole (w ∷ ws) = cond (is_whole w) (Some w.bindings) (first_whole ws)

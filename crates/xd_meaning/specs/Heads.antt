@@ -17,9 +17,11 @@ pieces T = T ∷ []
 abbrev pub followed_by : Tree → Tree → Tree
 followed_by R U = seq_of (pieces R ++ pieces U)
 
+-- the class of `String`
 abbrev pub all_texts : TextClass
 all_texts = record { names = []; except = true }
 
+-- a head that this type follows
 abbrev pub with_behind : Tree → Head Tree → Head Tree
 with_behind R h = record h { rest = followed_by h.rest R }
 
@@ -37,10 +39,12 @@ heads_by Z N (Plus T) = map (with_behind (Star T)) (heads_by Z N T)
 heads_by Z N (Opt T) = heads_by Z N T
 heads_by Z N (Val x T) = heads_by Z N T
 
+-- those of what a name is defined as
 abbrev pub heads_of_definition : (Tree → List (Head Tree)) → Option Tree → List (Head Tree)
 heads_of_definition F None = []
 heads_of_definition F (Some T) = F T
 
+-- those of a name, within so many unfoldings
 abbrev pub heads_of_name : (Tree → Bool) → Definitions → ℕ → List ℕ → List (Head Tree)
 heads_of_name Z E zero x = []
 heads_of_name Z E (suc n) x = heads_of_definition (heads_by Z (heads_of_name Z E n)) (body E x)

@@ -8,6 +8,6 @@ pub mod FitsWithin
 pub mod Heads
 pub mod HeadBegins
 pub mod Consistent
-pub mod Breach
+pub mod Violation
 pub mod KeptLines
 pub mod KeptFaults

@@ -16,7 +16,7 @@ use Rattle.xd_grammar.specs.declared.grammar.Terminal.TheVariants as t
 use Rattle.xd_doc.specs.Members.{IsOneOf}
 use Rattle.xd_grammar.specs.Grammar.{Row, rules}
 use Rattle.xd_grammar.specs.Text.{terminal_at}
-use Rattle.xd_syntax.specs.TypeText.{list_depth}
+use Rattle.xd_syntax.specs.TypeDepth.{list_depth}
 use Rattle.xd_doc.specs.ByteOrder.{in_byte_order}
 use Rattle.xd_parse_trees.specs.Merged.{class_of}
 use Rattle.xd_parse_trees.specs.Values.{Value, mark, word, label, a_text, absent, a_tree, trees, class, names, texts, labelled, token_of, an_expression, a_parameter, parameters, definitions, token_value, value_of}

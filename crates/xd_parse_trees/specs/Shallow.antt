@@ -3,7 +3,7 @@ use Rattle.std.specs.Prelude.{◌≡◌, ℕ, ◌≤◌, List}
 use Rattle.std.specs.List.{AllByRecursion}
 use Rattle.xd_syntax.specs.Table.{Row}
 use Rattle.xd_syntax.specs.Placed.{PlacedTree, unplaced, place_of, placed_seq}
-use Rattle.xd_syntax.specs.TypeText.{depth}
+use Rattle.xd_syntax.specs.TypeDepth.{depth}
 use Rattle.xd_syntax.specs.ShallowTables.{AddsWithin}
 use Rattle.xd_syntax.specs.Program.{Parameter, ProgramTree}
 use Rattle.xd_parse_trees.specs.Merged.{parts_of_seq}

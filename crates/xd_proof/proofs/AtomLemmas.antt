@@ -4,7 +4,7 @@ use Rattle.std.specs.Prelude.{◌&&◌}
 use Rattle.std.specs.List.{list_all}
 use Rattle.xd_doc.specs.Word.{is_word, is_word_start, is_word_part, are_word_parts}
 use Rattle.xd_doc.specs.Document.{escaped_all}
-use Rattle.xd_syntax.specs.TypeText.{quoted}
+use Rattle.xd_syntax.specs.TypeText.{quoted_text}
 use Rattle.xd_rules.specs.declared.atom.Atom.{Atom}
 use Rattle.xd_rules.specs.declared.atom.Atom.TheVariants.{Label, OtherLabel, Text, OtherText}
 use Rattle.xd_proof.specs.Lines.{space, IsFreeOf}
@@ -20,9 +20,9 @@ parts_all (b ∷ bs) = ap (λ x. is_word_part b && x) (parts_all bs)
 pub word_is : (bytes rest : List ℕ) (b : ℕ) (all : Bool) → bytes ≡ b ∷ rest → is_word_start b ≡ true → all ≡ list_all is_word_part rest → all ≡ is_word bytes
 word_is bytes rest b all e h f = f ∙ parts_all rest ∙ ap (λ x. x && are_word_parts rest) (sym h) ∙ ap is_word (sym e)
 
-pub no_space_behind : (inside text behind s r : List ℕ) → inside ≡ escaped_all text ++ 34 ∷ behind → ((rest : List ℕ) → behind ≡ space ∷ rest → ⊥) → 34 ∷ inside ≡ quoted s ++ space ∷ r → ⊥
+pub no_space_behind : (inside text behind s r : List ℕ) → inside ≡ escaped_all text ++ 34 ∷ behind → ((rest : List ℕ) → behind ≡ space ∷ rest → ⊥) → 34 ∷ inside ≡ quoted_text s ++ space ∷ r → ⊥
 no_space_behind inside text behind s r e never f =
-    let g : quoted text ++ behind ≡ 34 ∷ inside = ap (λ x. 34 ∷ x) (append_assoc (escaped_all text) (34 ∷ []) behind ∙ sym e) in
+    let g : quoted_text text ++ behind ≡ 34 ∷ inside = ap (λ x. 34 ∷ x) (append_assoc (escaped_all text) (34 ∷ []) behind ∙ sym e) in
     never r (quoted_one text s behind (space ∷ r) (g ∙ f)).1
 
 pub no_space_there : (bytes : List ℕ) → IsFreeOf space bytes → (a : Atom) (r : List ℕ) → IsAtom a → bytes ≡ atom_word a ++ space ∷ r → ⊥

@@ -6,7 +6,7 @@ use Rattle.xd_syntax.specs.Table.{Row}
 use Rattle.xd_syntax.specs.SoundTables.{IsTypeAt}
 use Rattle.xd_syntax.specs.Types.{BelongsTo, tree}
 use Rattle.xd_syntax.specs.declared.types.TypeId.{TypeId}
-use Rattle.xd_meaning.specs.Breach.{Lined}
+use Rattle.xd_meaning.specs.Violation.{Lined}
 use Rattle.xd_rules.specs.Rules.{Case}
 use Rattle.xd_proof.specs.Cases.{IsCase, IsTree}
 use Rattle.xd_proof.specs.declared.cases.ReadCase.{ReadCase}

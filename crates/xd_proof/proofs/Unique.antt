@@ -20,7 +20,7 @@ use Rattle.xd_lex.specs.declared.LexFault.{LexFault}
 use Rattle.xd_lex.specs.Scan.{quoted_length as scanned}
 use Rattle.xd_lex.specs.Spelled.{unescaped}
 use Rattle.xd_lex.proofs.Escapes.{quoted-escaped, unescaped-escaped}
-use Rattle.xd_syntax.specs.TypeText.{quoted}
+use Rattle.xd_syntax.specs.TypeText.{quoted_text}
 use Rattle.xd_proof.specs.Lines.{space, spaced, IsFreeOf, IsNumber, SpellsNumber}
 use Rattle.xd_proof.specs.Parts.{ProofLine, first_title, second_title, type_count, type_part, goal_count, goal_part, left_part, right_part, empty_part, case_part, end_part, atom_word, IsAtom, tree_words, HasNumbers, case_words, SpellsCase, Follows, SpellsTypePart, SpellsPart, SpellParts}
 use Rattle.xd_proof.proofs.LineLemmas.{same_front, same_words}
@@ -94,7 +94,7 @@ no_word l w e h k = let z : is_word w ≡ true = subst (λ x. is_word x ≡ true
 
 -- ---- atoms
 -- a text in quotes, with something after it
-pub quoted_one : (s t r q : List ℕ) → quoted s ++ r ≡ quoted t ++ q → (s ≡ t) × (r ≡ q)
+pub quoted_one : (s t r q : List ℕ) → quoted_text s ++ r ≡ quoted_text t ++ q → (s ≡ t) × (r ≡ q)
 quoted_one s t r q e =
     let a : escaped_all s ++ 34 ∷ r ≡ escaped_all t ++ 34 ∷ q =
     sym (append_assoc (escaped_all s) (34 ∷ []) r) ∙ ap (λ l. drop 1 l) e ∙ append_assoc (escaped_all t) (34 ∷ []) q in
@@ -107,7 +107,7 @@ pub word_no_quote : (l r : List ℕ) → is_word l ≡ true → get_or (l ++ r) 
 word_no_quote [] r h e = cc
 word_no_quote (c ∷ cs) r h e = let k = (and_parts _ _ h).0 in let z : false ≡ true = subst (λ x. is_word_start x ≡ true) e k in cc
 
-pub plain_no_quote : (a : Atom) (r s q : List ℕ) → IsAtom a → (is_text_atom a ≡ false) → atom_word a ++ space ∷ r ≡ quoted s ++ space ∷ q → ⊥
+pub plain_no_quote : (a : Atom) (r s q : List ℕ) → IsAtom a → (is_text_atom a ≡ false) → atom_word a ++ space ∷ r ≡ quoted_text s ++ space ∷ q → ⊥
 plain_no_quote (Label l) r s q h p e = word_no_quote l (space ∷ r) h (ap (λ l. get_or l 0 0) e)
 plain_no_quote OtherLabel r s q h p e = let z : 126 ≡ 34 = ap (λ l. get_or l 0 0) e in omega (arith, z)
 plain_no_quote (Text t) r s q h p e = cc

@@ -14,7 +14,7 @@
 use Rattle.std.specs.Prelude.{◌≡◌, ◌⊎◌, ℕ, ◌+◌, ◌-◌, ◌<◌, ◌≤◌, List, [], ◌∷◌, ◌++◌, map, length, take, Option, Some, None}
 use Rattle.xd_syntax.specs.Tree.{Tree}
 use Rattle.xd_rules.specs.Rules.{Case, numbered}
-use Rattle.xd_meaning.specs.Breach.{Lined, empty_lines}
+use Rattle.xd_meaning.specs.Violation.{Lined, empty_lines}
 use Rattle.xd_proof.specs.Lines.{IsCut, SpellsNumber}
 use Rattle.xd_proof.specs.Parts.{ProofLine, first_title, second_title, type_count, type_part, goal_count, goal_part, left_part, right_part, empty_part, case_part, end_part, SpellParts}
 

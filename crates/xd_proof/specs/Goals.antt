@@ -5,7 +5,7 @@ use Rattle.xd_syntax.specs.Table.{Row}
 use Rattle.xd_syntax.specs.SoundTables.{IsTypeAt}
 use Rattle.xd_syntax.specs.Types.{BelongsTo}
 use Rattle.xd_meaning.specs.Consistent.{Goal}
-use Rattle.xd_meaning.specs.Breach.{Lined}
+use Rattle.xd_meaning.specs.Violation.{Lined}
 use Rattle.xd_proof.specs.Cases.{IsCase}
 use Rattle.xd_proof.specs.declared.proof.ProofGoal.{ProofGoal}
 

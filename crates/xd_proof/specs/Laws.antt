@@ -2,7 +2,7 @@
 use Rattle.std.specs.Prelude.{◌≡◌, ◌↔◌, ◌⊎◌, ℕ, ◌<◌, codes, List, ◌∷◌, ◌++◌, length, Some}
 use Rattle.xd_syntax.specs.Tree.{Tree}
 use Rattle.xd_rules.specs.Rules.{Case}
-use Rattle.xd_meaning.specs.Breach.{Lined}
+use Rattle.xd_meaning.specs.Violation.{Lined}
 use Rattle.xd_proof.specs.Lines.{IsCut, SpellsNumber}
 use Rattle.xd_proof.specs.LineWords.{AreWords}
 use Rattle.xd_proof.specs.Parts.{ProofLine, SpellsCase, SpellsPart, SpellParts}

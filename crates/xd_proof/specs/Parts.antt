@@ -4,7 +4,7 @@ use Rattle.std.specs.Fmt.{decimal}
 use Rattle.std.specs.Str.{is_utf8}
 use Rattle.xd_doc.specs.Word.{is_word}
 use Rattle.xd_syntax.specs.Tree.{Tree}
-use Rattle.xd_syntax.specs.TypeText.{quoted}
+use Rattle.xd_syntax.specs.TypeText.{quoted_text}
 use Rattle.xd_rules.specs.declared.atom.Atom.{Atom}
 use Rattle.xd_rules.specs.declared.atom.Atom.TheVariants.{Label, OtherLabel, Text, OtherText}
 use Rattle.xd_rules.specs.Rules.{ChoiceTree, settles_content, settles_rest, split_on, Case}
@@ -30,7 +30,7 @@ pub data ProofLine (A : Type 0) : Type 0 where
 abbrev pub atom_word : Atom → List ℕ
 atom_word (Label l) = l
 atom_word OtherLabel = codes "~"
-atom_word (Text s) = quoted s
+atom_word (Text s) = quoted_text s
 atom_word OtherText = codes "$"
 
 -- a label is a word, a keyword too, and a text has characters that UTF-8 can spell

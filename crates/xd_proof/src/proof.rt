@@ -2,7 +2,7 @@
 
 ghost use Rattle.std.specs.Prelude.{◌≡◌, ◌<◌, ◌∷◌, List, length};
 ghost use Rattle.std.specs.List.{AllByRecursion};
-ghost use Rattle.xd_meaning.specs.Breach.{Lined};
+ghost use Rattle.xd_meaning.specs.Violation.{Lined};
 ghost use Rattle.xd_syntax.specs.Table.{Row};
 ghost use Rattle.xd_proof.specs.Goals.{AreGoalsAt, GoalsBelong};
 ghost use Rattle.xd_proof.specs.Kept.{AreTrees};

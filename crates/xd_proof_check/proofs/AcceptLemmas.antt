@@ -11,10 +11,10 @@ use Rattle.xd_syntax.specs.Kept.{ProgramTable, program_tree}
 use Rattle.xd_syntax.specs.Program.{ProgramTree, names_of}
 use Rattle.xd_syntax.specs.RecursionFaults.{IsSound}
 use Rattle.xd_syntax.specs.declared.types.TypeId.{TypeId}
-use Rattle.xd_meaning.specs.Breach.{Lined, goals_of}
+use Rattle.xd_meaning.specs.Violation.{Lined, goals_of}
 use Rattle.xd_meaning.specs.Consistent.{ClaimHolds, Goal, IsConsistent}
 use Rattle.xd_laws.proofs.FirstWrong.{first_wrong}
-use Rattle.xd_laws.proofs.BreachLaw.{first_is, none_is, rules_are_tested}
+use Rattle.xd_laws.proofs.ViolationLaw.{first_is, none_is, rules_are_tested}
 use Rattle.xd_laws.proofs.TheLaws.{consistent_proofs_hold_in, empty_decides}
 use Rattle.xd_heads.specs.Numbered.{Serves}
 use Rattle.xd_heads.specs.declared.lister.HeadLister.{HeadLister}

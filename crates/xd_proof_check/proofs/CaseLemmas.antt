@@ -15,7 +15,7 @@ use Rattle.xd_rules.specs.Rules.{Case, ChoiceTree, HeadAtom, atoms_from, numbere
 use Rattle.xd_meaning.specs.Consistent.{Goal, right_heads}
 use Rattle.xd_doc.specs.ByteOrder.{in_byte_order}
 use Rattle.xd_rules.specs.Heads.{Head, HeadKind, atoms_of, labels_of, named_in, texts_of}
-use Rattle.xd_meaning.specs.Breach.{bad_case}
+use Rattle.xd_meaning.specs.Violation.{bad_case}
 use Rattle.xd_laws.proofs.FirstWrong.{Refusal, at_line, or_next, reason_unless, same_atom, same_head_atom, wrong_case, wrong_cases, wrong_tree}
 use Rattle.xd_moves.specs.Cells.{Cell}
 use Rattle.xd_heads.specs.HeadList.{kind_at}

@@ -14,7 +14,7 @@ use Rattle.xd_syntax.specs.declared.types.TypeId.{TypeId}
 use Rattle.xd_meaning.specs.Heads as laws
 use Rattle.xd_meaning.specs.Consistent.{Goal, right_heads}
 use Rattle.xd_rules.specs.Rules.{numbered, wanted}
-use Rattle.xd_meaning.specs.Breach.{Lined, bad_empty, empty_lines, line_behind}
+use Rattle.xd_meaning.specs.Violation.{Lined, bad_empty, empty_lines, line_behind}
 use Rattle.xd_laws.proofs.FirstWrong.{at_line, empty_stands, or_next, reason_unless, right_is_empty, wrong_cases, wrong_goal, wrong_goals}
 use Rattle.xd_moves.specs.Cells.{Cell}
 use Rattle.xd_heads.specs.Numbered.{IsHeadIn}
@@ -25,8 +25,8 @@ use Rattle.xd_proof.specs.declared.proof.ProofGoal.{ProofGoal}
 use Rattle.xd_proof_check.specs.CaseWalk.{Meets}
 use Rattle.xd_proof_check.specs.Corresponds.{IsClaimAt}
 use Rattle.xd_proof_check.specs.GoalHeads.{AreGoalHeads}
-use Rattle.xd_proof_check.specs.GoalWalk.{MarksDecide, SheetView, Stands, breach_of, empty_marked, empty_marked_by, right_marked}
-use Rattle.xd_proof_check.specs.declared.check.Breach.{Breach}
+use Rattle.xd_proof_check.specs.GoalWalk.{MarksDecide, SheetView, Stands, violation_of, empty_marked, empty_marked_by, right_marked}
+use Rattle.xd_proof_check.specs.declared.check.Violation.{Violation}
 use Rattle.xd_proof_check.specs.declared.heads.GoalHeads.{GoalHeads}
 
 module _ (types : List Row) (E : Definitions) (marks : List Bool) (known : MarksDecide types E marks) where
@@ -94,12 +94,12 @@ goal_refused types E marks known gs made line e f l i = goal_wrong types E marks
 -- what is wrong first in the cases of a goal, where the rule on the empty document holds, is what
 -- is wrong with the goal
 pub goal_found : {X : Type 0} (types : List Row) (cells : List Cell) (E : Definitions) (goals : List ProofGoal) (marks : List Bool) (numbers : List ℕ) (made : ProofGoal) (h : GoalHeads) (line first : ℕ)
-    (r : Result (Option Breach) X) → MarksDecide types E marks →
+    (r : Result (Option Violation) X) → MarksDecide types E marks →
     ((gs : List Goal) → AllZip (IsClaimAt types) goals gs → Stands types cells gs (record { goals = goals; numbers = numbers })) →
     line ≡ made.line + 2 + length made.rights.items → first ≡ line + empty_lines made.empty_right → empty_marked marks made ≡ true → AreGoalHeads types cells E made h →
     IfOk r (λ found. (types : List Row) (cells : List Cell) (E : Definitions) (gs : List Goal) (g : Goal) → Stands types cells gs (record { goals = goals; numbers = numbers }) →
-    IsGoalAt types made g → AreGoalHeads types cells E made h → option_map breach_of found ≡ wrong_cases E gs g first (wanted (laws.heads E g.left) (right_heads E g)) g.cases) →
-    IfOk r (λ found. (gs : List Goal) (l : Lined) → AllZip (IsClaimAt types) goals gs → IsLinedAt types made l → option_map breach_of found ≡ wrong_goal E gs l)
+    IsGoalAt types made g → AreGoalHeads types cells E made h → option_map violation_of found ≡ wrong_cases E gs g first (wanted (laws.heads E g.left) (right_heads E g)) g.cases) →
+    IfOk r (λ found. (gs : List Goal) (l : Lined) → AllZip (IsClaimAt types) goals gs → IsLinedAt types made l → option_map violation_of found ≡ wrong_goal E gs l)
 goal_found types cells E goals marks numbers made h line first (Ok found) known a e f t j k = λ gs l z i.
     k types cells E gs l.goal (a gs z) i.goal j ∙ goal_right types E marks known gs made l line first i e f t
 goal_found types cells E goals marks numbers made h line first (Err x) known a e f t j k = tt
@@ -113,14 +113,14 @@ zip_drop P (v ∷ xs) (w ∷ ys) z zero x h e = (w, refl, subst (λ a. P a w) (s
 zip_drop P (v ∷ xs) (w ∷ ys) z (suc i) x h e = zip_drop P xs ys z.1 i x (omega arith) e
 
 -- a goal that was looked at, and those after it
-pub goals_step : (types : List Row) (E : Definitions) (gs : List Goal) (goals : List ProofGoal) (ls : List Lined) (at : ℕ) (g : ProofGoal) (found : Option Breach) →
-    AllZip (IsLinedAt types) goals ls → at < length goals → g ≡ get_or goals at g → ((l : Lined) → IsLinedAt types g l → option_map breach_of found ≡ wrong_goal E gs l) →
-    wrong_goals E gs (drop at ls) ≡ or_next (option_map breach_of found) (wrong_goals E gs (drop (at + 1) ls))
+pub goals_step : (types : List Row) (E : Definitions) (gs : List Goal) (goals : List ProofGoal) (ls : List Lined) (at : ℕ) (g : ProofGoal) (found : Option Violation) →
+    AllZip (IsLinedAt types) goals ls → at < length goals → g ≡ get_or goals at g → ((l : Lined) → IsLinedAt types g l → option_map violation_of found ≡ wrong_goal E gs l) →
+    wrong_goals E gs (drop at ls) ≡ or_next (option_map violation_of found) (wrong_goals E gs (drop (at + 1) ls))
 goals_step types E gs goals ls at g found z l e says =
     let r = zip_drop (IsLinedAt types) goals ls z at g l e in
     let n : suc at ≡ at + 1 = omega arith in
     ap (wrong_goals E gs) r.1 ∙ ap (λ o. or_next o (wrong_goals E gs (drop (suc at) ls))) (sym (says r.0 r.2))
-    ∙ ap (λ i. or_next (option_map breach_of found) (wrong_goals E gs (drop i ls))) n
+    ∙ ap (λ i. or_next (option_map violation_of found) (wrong_goals E gs (drop i ls))) n
 
 pub none_drop : (E : Definitions) (gs : List Goal) (ls : List Lined) (at : ℕ) → length ls ≤ at → wrong_goals E gs (drop at ls) ≡ None
 none_drop E gs ls at h = ap (wrong_goals E gs) (drop_all at ls h)

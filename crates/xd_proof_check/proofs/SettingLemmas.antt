@@ -10,7 +10,7 @@ use Rattle.xd_rules.specs.Rules.{ChoiceTree, numbered, no_sides}
 use Rattle.xd_meaning.specs.Consistent.{Goal}
 use Rattle.xd_rules.specs.Heads.{Head, HeadKind, matches}
 use Rattle.xd_syntax.specs.Table.{Row}
-use Rattle.xd_meaning.specs.Breach.{Reason}
+use Rattle.xd_meaning.specs.Violation.{Reason}
 use Rattle.xd_laws.proofs.FirstWrong.{wrong_choice, wrong_text, wrong_tree}
 use Rattle.xd_moves.specs.Cells.{Cell}
 use Rattle.xd_heads.specs.HeadList.{kind_at}

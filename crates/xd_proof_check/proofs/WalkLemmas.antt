@@ -11,7 +11,7 @@ use Rattle.xd_rules.specs.Heads.{Head, HeadKind, matches}
 use Rattle.xd_rules.specs.declared.atom.Atom.{Atom}
 use Rattle.xd_rules.specs.Rules.{ChoiceTree, settles_content, settles_rest, split_on, numbered, matching, Sides, no_sides, on_content, on_rest}
 use Rattle.xd_meaning.specs.Consistent.{Goal}
-use Rattle.xd_meaning.specs.Breach.{Reason, bad_split, bad_leaf}
+use Rattle.xd_meaning.specs.Violation.{Reason, bad_split, bad_leaf}
 use Rattle.xd_laws.proofs.FirstWrong.{same_tree, head_matches, has_number, has_part, some_head, each_some_head, leaf_stands, split_allowed, reason_unless, or_next, wrong_choice, wrong_text}
 use Rattle.xd_laws.proofs.SameTrees.{same_tree-is, tree_same}
 use Rattle.xd_proof.specs.declared.proof.ProofGoal.{ProofGoal}

@@ -17,7 +17,7 @@ use Rattle.xd_proof_check.specs.Corresponds.{IsClaimAt, Knows}
 use Rattle.xd_proof_check.specs.Leaves.{GoalsBelong}
 use Rattle.xd_moves.specs.Codes.{number_at}
 use Rattle.xd_proof_check.specs.Reasons.{reason_of}
-use Rattle.xd_proof_check.specs.declared.check.Breach.{Breach}
+use Rattle.xd_proof_check.specs.declared.check.Violation.{Violation}
 use Rattle.xd_proof_check.specs.declared.check.Sheet.{Sheet}
 use Rattle.xd_proof_check.specs.declared.heads.GoalHeads.{GoalHeads}
 use Rattle.xd_proof_check.specs.declared.path.Path.{Path}
@@ -40,8 +40,8 @@ pub record Stands (types : List Row) (cells : List Cell) (gs : List Goal) (s : S
 abbrev pub MarksDecide : List Row → Definitions → List Bool → Type 0
 MarksDecide types E marks = (i : ℕ) → i < length types → is_marked marks i ≡ can_be_empty E (tree_at types i)
 
-abbrev pub breach_of : Breach → Refusal
-breach_of b = (b.line, reason_of b.reason)
+abbrev pub violation_of : Violation → Refusal
+violation_of b = (b.line, reason_of b.reason)
 
 abbrev pub right_marked : List Bool → Option TypeId → Bool
 right_marked marks None = false

@@ -3,7 +3,7 @@ use Rattle.std.specs.Prelude.{◌≡◌, ℕ, suc, ◌-◌, ◌<◌, Bool, true,
 use Rattle.xd_rules.specs.Heads.{HeadKind, matches}
 use Rattle.xd_rules.specs.declared.atom.Atom.{Atom}
 use Rattle.xd_rules.specs.Rules.{ChoiceTree, settles_content, settles_rest, split_on, numbered}
-use Rattle.xd_meaning.specs.Breach.{Reason, bad_split, bad_leaf}
+use Rattle.xd_meaning.specs.Violation.{Reason, bad_split, bad_leaf}
 use Rattle.xd_laws.proofs.FirstWrong.{reason_unless, or_next}
 use Rattle.xd_proof.specs.declared.proof.ProofGoal.{ProofGoal}
 use Rattle.xd_proof.specs.declared.steps.Step.{Step}

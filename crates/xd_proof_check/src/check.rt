@@ -10,7 +10,7 @@ ghost use Rattle.xd_syntax.specs.Tree.{Definitions};
 ghost use Rattle.xd_meaning.specs.Consistent.{Goal, right_heads};
 ghost use Rattle.xd_meaning.specs.Heads as laws;
 ghost use Rattle.xd_rules.specs.Rules.{numbered, wanted};
-ghost use Rattle.xd_meaning.specs.Breach.{Lined, empty_lines};
+ghost use Rattle.xd_meaning.specs.Violation.{Lined, empty_lines};
 ghost use Rattle.xd_laws.proofs.FirstWrong.{first_wrong, wrong_cases, wrong_goal};
 ghost use Rattle.xd_moves.specs.Cells.{Cell};
 ghost use Rattle.xd_heads.specs.Numbered.{Serves};
@@ -21,7 +21,7 @@ ghost use Rattle.xd_proof.specs.LinesFit.{LinesFit};
 ghost use Rattle.xd_proof_check.specs.Corresponds.{IsClaimAt};
 ghost use Rattle.xd_proof_check.specs.GoalHeads.{AreGoalHeads};
 ghost use Rattle.xd_proof.specs.Kept.{AreTrees};
-ghost use Rattle.xd_proof_check.specs.GoalWalk.{GoalFits, Stands, breach_of, empty_marked, right_marked, sheet_of};
+ghost use Rattle.xd_proof_check.specs.GoalWalk.{GoalFits, Stands, violation_of, empty_marked, right_marked, sheet_of};
 ghost use Rattle.xd_proof_check.specs.Leaves.{GoalBelongs, GoalsBelong};
 ghost use Rattle.xd_proof_check.specs.Paths.{IsClear};
 
@@ -38,7 +38,7 @@ use xd_syntax::{Program, TypeId};
 
 /// A line at which a rule is broken, and why.
 #[derive(Clone, Copy)]
-pub(crate) struct Breach {
+pub(crate) struct Violation {
     pub line: u64,
     pub reason: Reason,
 }
@@ -51,31 +51,31 @@ pub(crate) struct Sheet<'a> {
     pub numbers: &'a [usize],
 }
 
-/// The first breach in a proof, if there is one. The heads of a goal are held while it is looked
+/// The first violation in a proof, if there is one. The heads of a goal are held while it is looked
 /// at.
 pub(crate) fn check_goals(
     alloc: Global,
     program: &Program,
     lister: &mut HeadLister,
     goals: &[ProofGoal],
-) -> Result<Option<Breach>, NoMemory>
+) -> Result<Option<Violation>, NoMemory>
     requires serves { Serves program.now lister.old }
     requires belong { GoalsBelong (length program.now.types) goals.now }
     requires trees { AllByRecursion AreTrees goals.now }
     requires lines { AllByRecursion LinesFit goals.now }
-    ensures found { IfOk result (λ found. (ls : List Lined) → AreGoalsAt program.now.types goals.now ls → option_map breach_of found ≡ first_wrong (names_of (program_tree program.now)) ls) }
+    ensures found { IfOk result (λ found. (ls : List Lined) → AreGoalsAt program.now.types goals.now ls → option_map violation_of found ≡ first_wrong (names_of (program_tree program.now)) ls) }
     ensures serves { OnOk result (Serves program.now lister.new) }
 {
     let mut path = Path::new(alloc);
     for goal in goals {
-        if let Some(breach) = check_goal(alloc, program, lister, goals, goal, &mut path)? {
-            return Ok(Some(breach));
+        if let Some(violation) = check_goal(alloc, program, lister, goals, goal, &mut path)? {
+            return Ok(Some(violation));
         }
     }
     Ok(None)
 }
 
-/// The first breach in a goal, if there is one.
+/// The first violation in a goal, if there is one.
 fn check_goal(
     alloc: Global,
     program: &Program,
@@ -83,21 +83,21 @@ fn check_goal(
     goals: &[ProofGoal],
     goal: &ProofGoal,
     path: &mut Path,
-) -> Result<Option<Breach>, NoMemory>
+) -> Result<Option<Violation>, NoMemory>
     requires serves { Serves program.now lister.old }
     requires belong { GoalsBelong (length program.now.types) goals.now }
     requires here { GoalBelongs (length program.now.types) goal.now }
     requires trees { AreTrees goal.now }
     requires lines { LinesFit goal.now }
     requires clear { IsClear path.old }
-    ensures found { IfOk result (λ found. (gs : List Goal) (l : Lined) → AllZip (IsClaimAt program.now.types) goals.now gs → IsLinedAt program.now.types goal.now l → option_map breach_of found ≡ wrong_goal (names_of (program_tree program.now)) gs l) }
+    ensures found { IfOk result (λ found. (gs : List Goal) (l : Lined) → AllZip (IsClaimAt program.now.types) goals.now gs → IsLinedAt program.now.types goal.now l → option_map violation_of found ≡ wrong_goal (names_of (program_tree program.now)) gs l) }
     ensures serves { OnOk result (Serves program.now lister.new) }
     ensures clear { IfOk result (λ found. IfNone found (IsClear path.new)) }
 {
     let rights = goal.rights.as_slice();
     let line = goal.line + 2 + rights.len() as u64;
     if !empty_stands(goal, lister.empty_marks()) {
-        return Ok(Some(Breach {
+        return Ok(Some(Violation {
             line,
             reason: Reason::Empty,
         }));
@@ -146,7 +146,7 @@ fn right_is_empty(rights: &[TypeId], number: u64, marks: &[bool]) -> bool
     marks[id.at()]
 }
 
-/// The first breach in the cases of a goal, which begin on this line.
+/// The first violation in the cases of a goal, which begin on this line.
 fn check_cases_of(
     alloc: Global,
     sheet: &Sheet,
@@ -154,11 +154,11 @@ fn check_cases_of(
     heads: &GoalHeads,
     line: u64,
     path: &mut Path,
-) -> Result<Option<Breach>, NoMemory>
+) -> Result<Option<Violation>, NoMemory>
     requires fits { GoalFits (sheet_of sheet.now) goal.now heads.now path.old }
     requires lines { line + length goal.now.cases.items < 2 ^ 64 }
     requires clear { IsClear path.old }
-    ensures found { IfOk result (λ found. (types : List Row) (cells : List Cell) (E : Definitions) (gs : List Goal) (g : Goal) → Stands types cells gs (sheet_of sheet.now) → IsGoalAt types goal.now g → AreGoalHeads types cells E goal.now heads.now → option_map breach_of found ≡ wrong_cases E gs g line (wanted (laws.heads E g.left) (right_heads E g)) g.cases) }
+    ensures found { IfOk result (λ found. (types : List Row) (cells : List Cell) (E : Definitions) (gs : List Goal) (g : Goal) → Stands types cells gs (sheet_of sheet.now) → IsGoalAt types goal.now g → AreGoalHeads types cells E goal.now heads.now → option_map violation_of found ≡ wrong_cases E gs g line (wanted (laws.heads E g.left) (right_heads E g)) g.cases) }
     ensures clear { IfOk result (λ found. IfNone found (IsClear path.new)) }
 {
     let contents = content_numbers(alloc, &heads.rights)?;
@@ -174,7 +174,7 @@ fn check_cases_of(
     };
     match check_cases(alloc, &cases, path)? {
         None => Ok(None),
-        Some((at, reason)) => Ok(Some(Breach {
+        Some((at, reason)) => Ok(Some(Violation {
             line: line + at as u64,
             reason,
         })),

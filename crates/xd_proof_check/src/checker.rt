@@ -6,14 +6,14 @@ ghost use Rattle.std.specs.Option.{option_map};
 ghost use Rattle.xd_syntax.specs.Kept.{AddsTypes, program_tree};
 ghost use Rattle.xd_syntax.specs.Program.{names_of};
 ghost use Rattle.xd_syntax.specs.ShallowTables.{IsShallow};
-ghost use Rattle.xd_meaning.specs.Breach.{Lined, goals_of};
+ghost use Rattle.xd_meaning.specs.Violation.{Lined, goals_of};
 ghost use Rattle.xd_meaning.specs.Consistent.{ClaimHolds, IsConsistent};
 ghost use Rattle.xd_proof.specs.Goals.{AreGoalsAt, GoalsBelong};
-ghost use Rattle.xd_proof_check.specs.GoalWalk.{breach_of, verdict_of};
+ghost use Rattle.xd_proof_check.specs.GoalWalk.{violation_of, verdict_of};
 ghost use Rattle.xd_proof_check.specs.Reasons.{IsVerdict};
 ghost use Rattle.xd_proof_check.specs.declared.verdict.ProofVerdict.TheVariants as verdicts;
 
-use crate::check::{Breach, check_goals};
+use crate::check::{Violation, check_goals};
 use crate::verdict::ProofVerdict;
 use std::alloc::Global;
 use xd_doc::NoMemory;
@@ -53,11 +53,11 @@ pub fn accepts(
 }
 
 /// What is found, as a verdict.
-fn verdict(found: Option<Breach>) -> ProofVerdict
-    ensures { verdict_of result ≡ option_map breach_of found }
+fn verdict(found: Option<Violation>) -> ProofVerdict
+    ensures { verdict_of result ≡ option_map violation_of found }
 {
     match found {
         None => ProofVerdict::Accepted,
-        Some(breach) => ProofVerdict::Refused(breach.line, breach.reason),
+        Some(violation) => ProofVerdict::Refused(violation.line, violation.reason),
     }
 }

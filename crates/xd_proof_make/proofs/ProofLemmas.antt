@@ -15,7 +15,7 @@ use Rattle.xd_auto.specs.declared.auto.State.{State}
 use Rattle.xd_auto.specs.Automaton.{Automaton}
 use Rattle.xd_meaning.specs.Consistent.{Goal, KeepsRules}
 use Rattle.xd_rules.specs.Rules.{numbered, ChoiceTree, settles_content, settles_rest, split_on}
-use Rattle.xd_meaning.specs.Breach.{Lined, goals_of}
+use Rattle.xd_meaning.specs.Violation.{Lined, goals_of}
 use Rattle.xd_doc.specs.Members.{IsOneOf}
 use Rattle.xd_rules.proofs.Members.{one_of-all, one_of-get, get-one_of}
 use Rattle.xd_state_heads.specs.Moves.{heads_of}

@@ -2,7 +2,7 @@
 use Rattle.std.proofs.Common.{◌≡◌, ℕ, ◌≤◌, List, [], ◌∷◌, Option, sym, subst, ◌∙◌}
 use Rattle.std.specs.List.{AllByRecursion}
 use Rattle.xd_syntax.specs.Tree.{Tree}
-use Rattle.xd_syntax.specs.TypeText.{depth}
+use Rattle.xd_syntax.specs.TypeDepth.{depth}
 use Rattle.xd_syntax.specs.NameFaults.{known_types}
 use Rattle.xd_syntax.specs.Program.{ProgramTree, names_of}
 use Rattle.xd_syntax.specs.Kept.{ProgramTable, AddsTypes, program_tree}
@@ -11,7 +11,7 @@ use Rattle.xd_syntax.specs.Shallow.{nesting_limit}
 use Rattle.xd_auto.specs.Automaton.{Automaton}
 use Rattle.xd_auto.specs.declared.auto.State.{State}
 use Rattle.xd_meaning.specs.Consistent.{Goal, IsConsistent}
-use Rattle.xd_meaning.specs.Breach.{goals_of}
+use Rattle.xd_meaning.specs.Violation.{goals_of}
 use Rattle.xd_goals.specs.Rows.{GoalRow, TableView, row_at}
 use Rattle.xd_heads.specs.CellsView.{CellsView}
 use Rattle.xd_heads.specs.Mirrors.{Mirrors, continuation_of}

@@ -4,7 +4,7 @@ use Rattle.std.specs.List.{AllZip, AllByRecursion}
 use Rattle.xd_doc.proofs.Lists.{all_parts}
 use Rattle.xd_lex.specs.Tokens.{tokens_of}
 use Rattle.xd_syntax.specs.Tree.{Tree}
-use Rattle.xd_syntax.specs.TypeText.{depth}
+use Rattle.xd_syntax.specs.TypeDepth.{depth}
 use Rattle.xd_syntax.specs.Table.{Row}
 use Rattle.xd_syntax.specs.Types.{tree}
 use Rattle.xd_syntax.specs.SoundTables.{IsTypeAt}
@@ -19,7 +19,7 @@ use Rattle.xd_parse.proofs.Spelled.{read_within}
 use Rattle.xd_parse.proofs.ValueDepthLemmas.{all_within}
 use Rattle.xd_parse_trees.proofs.Depth.{AnyWithin}
 use Rattle.xd_rules.specs.Rules.{numbered}
-use Rattle.xd_meaning.specs.Breach.{Lined}
+use Rattle.xd_meaning.specs.Violation.{Lined}
 use Rattle.xd_proof.specs.Lines.{SpellsNumber}
 use Rattle.xd_proof.specs.Parts.{ProofLine, type_part, left_part, right_part, SpellsPart, SpellParts}
 use Rattle.xd_proof.specs.Form.{GoalBlock, block_parts, blocks_from, types_from, goals_from, block_length, AreNamed, NameTypes, AreProof, IsProofText}

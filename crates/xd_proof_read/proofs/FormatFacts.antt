@@ -11,7 +11,7 @@ use Rattle.xd_syntax.specs.SoundTables.{IsTypeAt}
 use Rattle.xd_syntax.specs.Kept.{ProgramTable, program_tree}
 use Rattle.xd_syntax.specs.NameFaults.{known_types}
 use Rattle.xd_syntax.specs.declared.types.TypeId.{TypeId}
-use Rattle.xd_meaning.specs.Breach.{Lined}
+use Rattle.xd_meaning.specs.Violation.{Lined}
 use Rattle.xd_proof.specs.Lines.{SpellsNumber, IsCut}
 use Rattle.xd_proof.specs.Parts.{Follows, SpellParts}
 use Rattle.xd_proof.specs.Form.{GoalBlock, goal_list, types_from, goals_from, AreProof, IsProofText, IsFirstBadLine}

@@ -13,7 +13,7 @@ use Rattle.xd_syntax.specs.Kept.{ProgramTable}
 use Rattle.xd_syntax.specs.declared.types.TypeId.{TypeId}
 use Rattle.xd_sound.proofs.AdoptLaws.{type_kept}
 use Rattle.xd_rules.specs.Rules.{Case}
-use Rattle.xd_meaning.specs.Breach.{Lined}
+use Rattle.xd_meaning.specs.Violation.{Lined}
 use Rattle.xd_proof.specs.Parts.{ProofLine, first_title, second_title, type_count, type_part, goal_count, goal_part, left_part, right_part, empty_part, case_part, end_part}
 use Rattle.xd_proof.specs.Form.{GoalBlock, block_length, goals_from}
 use Rattle.xd_proof.specs.Course.{Course, at_count, at_first_goal, at_left, in_rights, in_cases, at_end, only_if, plain_block, with_empty, with_case, after_goal, next}

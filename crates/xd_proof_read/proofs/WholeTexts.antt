@@ -6,7 +6,7 @@ use Rattle.std.proofs.lemmas.List.{length-take-le, take-append-le}
 use Rattle.std.proofs.Math.Seq.{take-length}
 use Rattle.xd_syntax.specs.Tree.{Tree, Empty}
 use Rattle.xd_syntax.specs.TypeText.{type_text}
-use Rattle.xd_meaning.specs.Breach.{Lined}
+use Rattle.xd_meaning.specs.Violation.{Lined}
 use Rattle.xd_proof.specs.Lines.{space, SpellsNumber, IsCut}
 use Rattle.xd_proof.specs.Parts.{Follows, SpellParts}
 use Rattle.xd_proof.specs.Form.{GoalBlock, goal_list, types_from, goals_from, AreSecond, AreProof, IsProofText, CanBegin, IsFirstBadLine}

@@ -1,7 +1,7 @@
 -- The first line with which no text of some kind goes on.
 use Rattle.std.specs.Prelude.{◌≡◌, ◌⊎◌, ℕ, ◌+◌, ◌-◌, ◌<◌, ◌≤◌, codes, List, [], ◌++◌, length, take, get_or}
 use Rattle.xd_syntax.specs.Tree.{Tree}
-use Rattle.xd_meaning.specs.Breach.{Lined}
+use Rattle.xd_meaning.specs.Violation.{Lined}
 use Rattle.xd_proof.specs.Lines.{SpellsNumber}
 use Rattle.xd_proof.specs.Parts.{Follows, SpellsTypePart, SpellParts}
 use Rattle.xd_proof.specs.Form.{GoalBlock, goal_list, types_from, AreProof}

@@ -3,7 +3,7 @@ use Rattle.std.specs.Prelude.{◌≡◌, ℕ, ◌+◌, List, [], ◌∷◌, Opti
 use Rattle.xd_syntax.specs.Tree.{Tree}
 use Rattle.xd_syntax.specs.Table.{Row}
 use Rattle.xd_syntax.specs.Kept.{ProgramTable}
-use Rattle.xd_meaning.specs.Breach.{Lined}
+use Rattle.xd_meaning.specs.Violation.{Lined}
 use Rattle.xd_proof.specs.Parts.{ProofLine}
 use Rattle.xd_proof.specs.Form.{GoalBlock, block_length, goals_from}
 use Rattle.xd_proof.specs.Course.{Course, at_count, at_first_goal, at_left, in_rights, in_cases, at_end, plain_block, next}

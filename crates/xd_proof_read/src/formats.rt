@@ -4,7 +4,7 @@ ghost use Rattle.std.specs.Prelude.{◌≡◌, ◌≢◌, ◌+◌, ◌<◌, ◌^
 ghost use Rattle.std.specs.List.{AllZip};
 ghost use Rattle.xd_syntax.specs.Tree.{Tree};
 ghost use Rattle.xd_syntax.specs.SoundTables.{IsTypeAt};
-ghost use Rattle.xd_meaning.specs.Breach.{Lined};
+ghost use Rattle.xd_meaning.specs.Violation.{Lined};
 ghost use Rattle.xd_proof.specs.Lines.{SpellsNumber};
 ghost use Rattle.xd_proof.specs.Form.{AreProof, types_from};
 ghost use Rattle.xd_proof.specs.Parts.{SpellParts};

@@ -6,7 +6,7 @@ ghost use Rattle.xd_syntax.specs.Kept.{AddsTypes, program_tree};
 ghost use Rattle.xd_syntax.specs.NameFaults.{known_types};
 ghost use Rattle.xd_syntax.specs.ShallowTables.{AddsWithin, IsShallow};
 ghost use Rattle.xd_syntax.specs.Shallow.{nesting_limit};
-ghost use Rattle.xd_meaning.specs.Breach.{Lined};
+ghost use Rattle.xd_meaning.specs.Violation.{Lined};
 ghost use Rattle.xd_proof.specs.Form.{IsFirstBadLine, IsProofText};
 ghost use Rattle.xd_proof.specs.TypeTexts.{SpellsType};
 ghost use Rattle.xd_proof.specs.Goals.{AreGoalsAt};

@@ -7,7 +7,7 @@ use Rattle.xd_syntax.specs.TypeText.{type_text}
 use Rattle.xd_syntax.specs.Table.{Row}
 use Rattle.xd_syntax.specs.Types.{BelongsTo, tree}
 use Rattle.xd_syntax.specs.SoundTables.{IsTypeAt}
-use Rattle.xd_meaning.specs.Breach.{Lined}
+use Rattle.xd_meaning.specs.Violation.{Lined}
 use Rattle.xd_proof.specs.Goals.{AreGoalsAt}
 use Rattle.xd_proof.specs.declared.proof.ProofGoal.{ProofGoal}
 use Rattle.xd_syntax.specs.declared.types.TypeId.{TypeId}

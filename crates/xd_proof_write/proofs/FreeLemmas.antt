@@ -11,7 +11,7 @@ use Rattle.xd_doc.proofs.Bools.{and_parts}
 use Rattle.xd_doc.proofs.Lists.{all_append}
 use Rattle.xd_syntax.specs.Tree.{Tree, Empty, Text, Words, Name, Elem, Seq, Alt, Star, Plus, Opt, Val, is_empty}
 use Rattle.xd_syntax.specs.Proper.{IsProperTree}
-use Rattle.xd_syntax.specs.TypeText.{Level, any_type_level, sequence_level, postfix_level, primary_level, parted, sequence_wants, alternative_wants, postfix_wants, in_parentheses, barred, labels_text, excepted_text, class_text, quoted, text_at_level}
+use Rattle.xd_syntax.specs.TypeText.{Level, any_type_level, sequence_level, postfix_level, primary_level, parted, sequence_wants, alternative_wants, postfix_wants, in_parentheses, barred, labels_text, excepted_text, class_text, quoted_text, text_at_level}
 use Rattle.xd_rules.specs.declared.atom.Atom.{Atom}
 use Rattle.xd_rules.specs.declared.atom.Atom.TheVariants as atoms
 use Rattle.xd_rules.specs.Rules.{ChoiceTree, settles_content, settles_rest, split_on, Case}
@@ -64,7 +64,7 @@ escaped_line : (s : List ℕ) → IsLine (escaped_all s)
 escaped_line [] = tt
 escaped_line (c ∷ cs) = line_joined (escaped c) (escaped_all cs) (escape_line c (nat_eq c 34) (nat_eq c 92) (nat_eq c 10) (nat_eq c 9) refl) (escaped_line cs)
 
-quoted_line : (s : List ℕ) → IsLine (quoted s)
+quoted_line : (s : List ℕ) → IsLine (quoted_text s)
 quoted_line s = line_joined (codes "\"" ++ escaped_all s) (codes "\"") (line_joined (codes "\"") (escaped_all s) (is_line (codes "\"") refl) (escaped_line s)) (is_line (codes "\"") refl)
 
 -- ---- types
@@ -100,7 +100,7 @@ labels_line : (ws : List (List ℕ)) → AllByRecursion (λ w. is_word w ≡ tru
 labels_line [] a = tt
 labels_line (w ∷ ws) a = (word_line w a.0, labels_line ws a.1)
 
-texts_line : (ws : List (List ℕ)) → AllByRecursion IsLine (map quoted ws)
+texts_line : (ws : List (List ℕ)) → AllByRecursion IsLine (map quoted_text ws)
 texts_line [] = tt
 texts_line (w ∷ ws) = (quoted_line w, texts_line ws)
 
@@ -111,7 +111,7 @@ text_line : (v : Level) (T : Tree) → IsProperTree false T → IsLine (text_at_
 text_line v Empty p = is_line (codes "()") refl
 text_line v Text p = is_line (codes "String") refl
 text_line v (Words w) p =
-    line_joined (cond w.except (codes "^") []) (labels_text (map quoted w.names)) (either w.except (codes "^") [] (is_line (codes "^") refl) tt) (list_line (map quoted w.names) (texts_line w.names))
+    line_joined (cond w.except (codes "^") []) (labels_text (map quoted_text w.names)) (either w.except (codes "^") [] (is_line (codes "^") refl) tt) (list_line (map quoted_text w.names) (texts_line w.names))
 text_line v (Name x) p = word_line x p
 text_line v (Elem c T) p =
     let a = labels_line c.names (p.0).words in

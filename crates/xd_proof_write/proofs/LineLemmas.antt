@@ -11,7 +11,7 @@ use Rattle.xd_syntax.specs.SoundTables.{IsTypeAt}
 use Rattle.xd_syntax.specs.declared.types.TypeId.{TypeId}
 use Rattle.xd_rules.specs.Rules.{ChoiceTree, settles_content, settles_rest, split_on, Case}
 use Rattle.xd_meaning.specs.Consistent.{Goal}
-use Rattle.xd_meaning.specs.Breach.{Lined, goals_of}
+use Rattle.xd_meaning.specs.Violation.{Lined, goals_of}
 use Rattle.xd_proof.specs.Lines.{line_feed, space, each_ended, spaced}
 use Rattle.xd_proof.specs.Parts.{ProofLine, left_part, right_part, case_part, atom_word, tree_words}
 use Rattle.xd_proof.specs.Form.{GoalBlock, empty_parts, block_parts, blocks_from, types_from}

@@ -13,7 +13,7 @@ use Rattle.xd_syntax.specs.Table.{Row}
 use Rattle.xd_syntax.specs.ProperTables.{IsTable}
 use Rattle.xd_syntax.specs.SoundTables.{IsTypeAt}
 use Rattle.xd_syntax.specs.declared.types.TypeId.{TypeId}
-use Rattle.xd_meaning.specs.Breach.{Lined, goals_of}
+use Rattle.xd_meaning.specs.Violation.{Lined, goals_of}
 use Rattle.xd_laws.specs.SameTree.{same_tree}
 use Rattle.xd_laws.proofs.SameTrees.{same_tree-is, tree_same}
 use Rattle.xd_laws.proofs.Unfoldings.{same_word_eq}

@@ -9,7 +9,7 @@ use Rattle.xd_syntax.specs.Tree.{Tree}
 use Rattle.xd_syntax.specs.TypeText.{type_text}
 use Rattle.xd_rules.specs.Rules.{Case}
 use Rattle.xd_meaning.specs.Consistent.{Goal}
-use Rattle.xd_meaning.specs.Breach.{goals_of}
+use Rattle.xd_meaning.specs.Violation.{goals_of}
 use Rattle.xd_laws.specs.SameTree.{same_tree}
 use Rattle.xd_laws.proofs.SameTrees.{same_tree-is, tree_same}
 use Rattle.xd_type_laws.proofs.TheLaw.{types_read_back}

@@ -4,10 +4,10 @@ use Rattle.std.specs.List.{AllByRecursion}
 use Rattle.xd_syntax.specs.Tree.{Tree, uses_only}
 use Rattle.xd_syntax.specs.Proper.{IsProperTree}
 use Rattle.xd_syntax.specs.Shallow.{nesting_limit}
-use Rattle.xd_syntax.specs.TypeText.{depth}
+use Rattle.xd_syntax.specs.TypeDepth.{depth}
 use Rattle.xd_rules.specs.Rules.{Case}
 use Rattle.xd_meaning.specs.Consistent.{Goal}
-use Rattle.xd_meaning.specs.Breach.{Lined, goals_of}
+use Rattle.xd_meaning.specs.Violation.{Lined, goals_of}
 use Rattle.xd_laws.specs.SameTree.{same_tree}
 use Rattle.xd_type_laws.specs.ReadBackLaws.{IsMerged}
 use Rattle.xd_proof.specs.Lines.{IsNumber}

@@ -4,7 +4,7 @@ ghost use Rattle.std.specs.Prelude.{◌≡◌, ◌∷◌, ◌++◌, List, codes,
 ghost use Rattle.std.specs.List.{AllByRecursion};
 ghost use Rattle.xd_syntax.specs.Types.{BelongsTo, tree};
 ghost use Rattle.xd_syntax.specs.TypeText.{type_text};
-ghost use Rattle.xd_meaning.specs.Breach.{Lined};
+ghost use Rattle.xd_meaning.specs.Violation.{Lined};
 ghost use Rattle.xd_proof.specs.Goals.{AreGoalsAt, GoalsBelong};
 ghost use Rattle.xd_proof_write.specs.ClaimText.{claim_text, rights_text};
 

@@ -4,7 +4,7 @@ ghost use Rattle.std.specs.Prelude.{◌≡◌, ◌++◌, List, ℕ, map, flat_ma
 ghost use Rattle.std.specs.List.{AllByRecursion};
 ghost use Rattle.std.specs.Str.{bytes_eq};
 ghost use Rattle.xd_syntax.specs.Types.{BelongsTo};
-ghost use Rattle.xd_meaning.specs.Breach.{Lined, goals_of};
+ghost use Rattle.xd_meaning.specs.Violation.{Lined, goals_of};
 ghost use Rattle.xd_proof.specs.Goals.{AreGoalsAt, GoalBelongs, GoalsBelong};
 ghost use Rattle.xd_proof_write.specs.SecondText.{number_among, second_text_of};
 ghost use Rattle.xd_proof_write.specs.Laws.{AreWritable, SpellsGoals};

@@ -9,7 +9,7 @@ use Rattle.std.proofs.lemmas.List.{get_or-take, get_or_push, length_push, length
 use Rattle.std.proofs.lemmas.List.Elements.{Contains-get_or}
 use Rattle.xd_syntax.specs.Tree.{Tree, Elem, Star, Plus, Opt, Val, seq_of, is_empty}
 use Rattle.xd_syntax.specs.TreeForms.{alt_of, is_seq, is_alt}
-use Rattle.xd_syntax.specs.TypeText.{depth}
+use Rattle.xd_syntax.specs.TypeDepth.{depth}
 use Rattle.xd_syntax.specs.ShallowTables.{AddsOne, AddsWithin}
 use Rattle.xd_syntax.specs.Table.{Row, Form, empty_form, text_form, words_form, name_form, elem_form, seq_form, alt_form, star_form, plus_form, opt_form, val_form, form_tree, tree_at, AreBuilt, IsSeqPart, IsAltPart, CanFollow, KeepsRows}
 use Rattle.xd_syntax.specs.Kept.{ProgramTable, AddsTypes}

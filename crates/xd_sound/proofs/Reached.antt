@@ -13,7 +13,8 @@ use Rattle.xd_doc.proofs.Bools.{same_tests}
 use Rattle.xd_doc.proofs.Numbers.{itself as same_le, le_suc}
 use Rattle.xd_syntax.specs.Tree.{Tree, Empty, Text, Words, Name, Elem, Seq, Alt, Star, Plus, Opt, Val, seq_of, is_empty, uses_only}
 use Rattle.xd_syntax.specs.TreeForms.{alt_of, size}
-use Rattle.xd_syntax.specs.TypeText.{depth, depth_at_level, sequence_level, postfix_level, primary_level}
+use Rattle.xd_syntax.specs.TypeText.{sequence_level, postfix_level, primary_level}
+use Rattle.xd_syntax.specs.TypeDepth.{depth, depth_at_level}
 use Rattle.xd_syntax.specs.Table.{Row, Form, empty_form, text_form, words_form, name_form, elem_form, seq_form, alt_form, star_form, plus_form, opt_form, val_form, form_tree, tree_at, AreBuilt, CanFollow}
 use Rattle.xd_syntax.specs.Nodes.{form_parts, form_at, no_row, parts_of}
 use Rattle.xd_sound.specs.Adopt.{Reaches, itself, part, AreRising, AreReached, form_known}

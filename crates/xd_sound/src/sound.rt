@@ -14,7 +14,7 @@ ghost use Rattle.xd_syntax.specs.TreeForms.{size};
 ghost use Rattle.xd_syntax.specs.Types.{form_of, tree, BelongsTo};
 ghost use Rattle.xd_syntax.specs.ShallowTables.{AddsOne, AddsWithin, IsShallow};
 ghost use Rattle.xd_syntax.specs.Shallow.{nesting_limit};
-ghost use Rattle.xd_syntax.specs.TypeText.{depth};
+ghost use Rattle.xd_syntax.specs.TypeDepth.{depth};
 ghost use Rattle.xd_syntax.specs.Kept.{AddsTypes, program_tree};
 ghost use Rattle.xd_syntax.specs.Proper.{IsProperProgram};
 ghost use Rattle.xd_syntax.specs.RecursionFaults.{IsSound};

@@ -3,7 +3,7 @@ use Rattle.std.proofs.Common.{◌≡◌, ◌≤◌, ◌<◌, ℕ, Result, Ok, Er
 use Rattle.xd_base.specs.declared.Place.{Place}
 use Rattle.xd_doc.proofs.Numbers.{below_or_from}
 use Rattle.xd_syntax.specs.Tree.{Tree}
-use Rattle.xd_syntax.specs.TypeText.{depth}
+use Rattle.xd_syntax.specs.TypeDepth.{depth}
 use Rattle.xd_syntax.specs.Table.{Row, Form, KeepsRows, tree_at, form_tree}
 use Rattle.xd_syntax.specs.ShallowTables.{AddsWithin, AddsOne, IsShallow}
 use Rattle.xd_syntax.specs.Shallow.{nesting_limit}

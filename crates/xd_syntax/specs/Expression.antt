@@ -22,6 +22,7 @@ mutual
     no_clause : Clauses
     clause : (pattern : PlacedTree) (value : Expression) (rest : Clauses) → Clauses
 
+-- the place of the node
 abbrev pub place_of_expression : Expression → Place
 place_of_expression (Nothing p) = p
 place_of_expression (Quoted p s) = p
@@ -37,6 +38,7 @@ joined p [] = Nothing p
 joined p (e ∷ []) = e
 joined p (e ∷ (f ∷ fs)) = Joined p e (joined (place_of_expression f) (f ∷ fs))
 
+-- the arguments of a call, of a list
 abbrev pub arguments_of : List Expression → Arguments
 arguments_of [] = no_argument
 arguments_of (e ∷ es) = argument e (arguments_of es)

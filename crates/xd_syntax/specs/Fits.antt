@@ -9,13 +9,17 @@ pub data Fits (E : Definitions) : Tree → Document → Type 0 where
   fits_empty : Fits E Empty empty
   fits_text : {s : List ℕ} → Fits E Text (text s empty)
   fits_words : {w : TextClass} {s : List ℕ} → class_has w s ≡ true → Fits E (Words w) (text s empty)
-  fits_elem : {c : LabelClass} {T : Tree} {l : List ℕ} {d : Document} → class_has c l ≡ true → Fits E T d → Fits E (Elem c T) (element l d empty)
-  fits_seq : {T U : Tree} {d : Document} (a b : Document) → join a b ≡ d → Fits E T a → Fits E U b → Fits E (Seq T U) d
+  fits_elem : {c : LabelClass} {T : Tree} {l : List ℕ} {d : Document} →
+      class_has c l ≡ true → Fits E T d → Fits E (Elem c T) (element l d empty)
+  fits_seq : {T U : Tree} {d : Document} (a b : Document) →
+      join a b ≡ d → Fits E T a → Fits E U b → Fits E (Seq T U) d
   fits_left : {T U : Tree} {d : Document} → Fits E T d → Fits E (Alt T U) d
   fits_right : {T U : Tree} {d : Document} → Fits E U d → Fits E (Alt T U) d
   fits_no_turn : {T : Tree} → Fits E (Star T) empty
-  fits_turn : {T : Tree} {d : Document} (a b : Document) → join a b ≡ d → has_item a ≡ true → Fits E T a → Fits E (Star T) b → Fits E (Star T) d
-  fits_plus : {T : Tree} {d : Document} (a b : Document) → join a b ≡ d → Fits E T a → Fits E (Star T) b → Fits E (Plus T) d
+  fits_turn : {T : Tree} {d : Document} (a b : Document) →
+      join a b ≡ d → has_item a ≡ true → Fits E T a → Fits E (Star T) b → Fits E (Star T) d
+  fits_plus : {T : Tree} {d : Document} (a b : Document) →
+      join a b ≡ d → Fits E T a → Fits E (Star T) b → Fits E (Plus T) d
   fits_absent : {T : Tree} → Fits E (Opt T) empty
   fits_present : {T : Tree} {d : Document} → Fits E T d → Fits E (Opt T) d
   fits_name : {x : List ℕ} {T : Tree} {d : Document} → body E x ≡ Some T → Fits E T d → Fits E (Name x) d

@@ -14,6 +14,7 @@ pub mod Proper
 pub mod ProperTables
 pub mod Ways
 pub mod TypeText
+pub mod TypeDepth
 pub mod Shallow
 pub mod ShallowTables
 pub mod Order

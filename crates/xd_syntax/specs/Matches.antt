@@ -1,10 +1,11 @@
 -- The matches of a program, each with what is in scope there, and the variables of their clauses.
 -- (This project's own rule.)
-use Rattle.std.specs.Prelude.{◌≡◌, ℕ, Bool, not, ◌⊎◌, List, [], ◌∷◌, ◌++◌, filter}
+use Rattle.std.specs.Prelude.{◌≡◌, Bool, not, ◌⊎◌, List, [], ◌∷◌, ◌++◌, filter}
 use Rattle.std.specs.Str.{bytes_eq}
 use Rattle.xd_base.specs.declared.Place.{Place}
 use Rattle.xd_syntax.specs.Placed.{PlacedTree, Empty_at, Text_at, Words_at, Name_at, Elem_at, Seq_at, Alt_at, Star_at, Plus_at, Opt_at, Val_at}
-use Rattle.xd_syntax.specs.Order.{is_earlier, ordered}
+use Rattle.xd_syntax.specs.NameFaults.{Spot, spot}
+use Rattle.xd_syntax.specs.Order.{InTurn, is_earlier, ordered}
 use Rattle.xd_syntax.specs.May.{Scope, clause_entry, parameters_scope}
 use Rattle.xd_syntax.specs.CheckFaults.{IsLiveIn}
 use Rattle.xd_syntax.specs.Expression.{Expression, Nothing, Quoted, Variable, Tagged, Joined, Called, Matched, Arguments, no_argument, argument, Clauses, no_clause, clause}
@@ -16,10 +17,6 @@ pub record SeenMatch : Type 0 where
   pub scope : Scope
   pub scrutinee : Expression
   pub clauses : Clauses
-
--- what two parts have, the first part's first
-abbrev pub InTurn : {A : Type 0} → (List A → Type 0) → (List A → Type 0) → List A → Type 0
-InTurn X Y zs = (xs : List _) × (ys : List _) × X xs × Y ys × (zs ≡ xs ++ ys)
 
 -- the matches inside an expression, but for those inside the bodies of clauses that aren't live
 abbrev mutual
@@ -37,7 +34,8 @@ abbrev mutual
   MatchesOfArguments P S (argument e es) ms = InTurn (MatchesOf P S e) (MatchesOfArguments P S es) ms
 
   -- those in the bodies of clauses of a scrutinee, after these patterns
-  pub MatchesOfClauses : ProgramTree → Scope → Expression → List PlacedTree → Clauses → List SeenMatch → Type 0
+  pub MatchesOfClauses :
+      ProgramTree → Scope → Expression → List PlacedTree → Clauses → List SeenMatch → Type 0
   MatchesOfClauses P S e earlier no_clause ms = ms ≡ []
   MatchesOfClauses P S e earlier (clause Q f cs) ms =
       InTurn
@@ -50,10 +48,12 @@ abbrev mutual
 abbrev pub MatchesOfFunction : ProgramTree → FunctionDefinition → List SeenMatch → Type 0
 MatchesOfFunction P f ms = MatchesOf P (parameters_scope f.parameters) f.body ms
 
+-- those of each function, in order
 abbrev pub MatchesOfFunctions : ProgramTree → List FunctionDefinition → List SeenMatch → Type 0
 MatchesOfFunctions P [] ms = ms ≡ []
 MatchesOfFunctions P (f ∷ fs) ms = InTurn (MatchesOfFunction P f) (MatchesOfFunctions P fs) ms
 
+-- the earlier place comes first
 abbrev pub match_precedes : SeenMatch → SeenMatch → Bool
 match_precedes m n = is_earlier m.place n.place
 
@@ -64,23 +64,18 @@ pub record AreMatches (P : ProgramTree) (ms : List SeenMatch) : Type 0 where
   pub all : MatchesOfFunctions P P.functions found
   pub ordered : ms ≡ ordered match_precedes found
 
--- a variable's occurrence, with the place of its word
-pub record Occurrence : Type 0 where
-  pub variable : List ℕ
-  pub place : Place
-
--- the occurrences of variables in a pattern, in order
-abbrev pub occurrences_in : PlacedTree → List Occurrence
-occurrences_in (Elem_at p c T) = occurrences_in T
-occurrences_in (Seq_at p T U) = occurrences_in T ++ occurrences_in U
-occurrences_in (Alt_at p T U) = occurrences_in T ++ occurrences_in U
-occurrences_in (Star_at p T) = occurrences_in T
-occurrences_in (Plus_at p T) = occurrences_in T
-occurrences_in (Opt_at p T) = occurrences_in T
-occurrences_in (Val_at p x q T) = record { variable = x; place = q } ∷ occurrences_in T
-occurrences_in _ = []
+-- the variables of a pattern, each with the place of its word, in order
+abbrev pub variable_spots : PlacedTree → List Spot
+variable_spots (Elem_at p c T) = variable_spots T
+variable_spots (Seq_at p T U) = variable_spots T ++ variable_spots U
+variable_spots (Alt_at p T U) = variable_spots T ++ variable_spots U
+variable_spots (Star_at p T) = variable_spots T
+variable_spots (Plus_at p T) = variable_spots T
+variable_spots (Opt_at p T) = variable_spots T
+variable_spots (Val_at p x q T) = spot x q ∷ variable_spots T
+variable_spots _ = []
 
 -- of each variable the first occurrence, in order
-abbrev pub first_occurrences : List Occurrence → List Occurrence
-first_occurrences [] = []
-first_occurrences (o ∷ os) = o ∷ filter (λ (p : Occurrence). not (bytes_eq o.variable p.variable)) (first_occurrences os)
+abbrev pub first_spots : List Spot → List Spot
+first_spots [] = []
+first_spots (s ∷ ss) = s ∷ filter (λ (t : Spot). not (bytes_eq s.word t.word)) (first_spots ss)

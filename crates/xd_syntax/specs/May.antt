@@ -48,9 +48,11 @@ IsLive E A earlier P = (d : Document) × Arrives E A earlier d × Takes E (unpla
 
 -- some whole way of the pattern, on a document that comes to the clause, binds the variable to the
 -- document
-abbrev pub MayBind : Definitions → (Document → Type 0) → List PlacedTree → PlacedTree → List ℕ → Document → Type 0
+abbrev pub MayBind :
+    Definitions → (Document → Type 0) → List PlacedTree → PlacedTree → List ℕ → Document → Type 0
 MayBind E A earlier P x d =
-    (whole : Document) × (way : Way) × Arrives E A earlier whole × IsWholeWay E (unplaced P) whole way × IsOneOf (x, d) way.bindings
+    (whole : Document) × (way : Way)
+    × Arrives E A earlier whole × IsWholeWay E (unplaced P) whole way × IsOneOf (x, d) way.bindings
 
 -- the first fact where the test holds, else the second
 abbrev pub WhereTrue : Bool → Type 0 → Type 0 → Type 0
@@ -58,13 +60,16 @@ WhereTrue true A B = A
 WhereTrue false A B = B
 
 -- Inside a clause the pattern's variables are what it may bind them to, and hide those around.
-abbrev pub in_clause : Definitions → (Document → Type 0) → List PlacedTree → PlacedTree → Allowance → Allowance
+abbrev pub in_clause :
+    Definitions → (Document → Type 0) → List PlacedTree → PlacedTree → Allowance → Allowance
 in_clause E A earlier P V x d = WhereTrue (has_word (variables P) x) (MayBind E A earlier P x d) (V x d)
 
+-- what the declared type of a function lets its results be; a function that isn't there has none
 abbrev pub FitsResult : Definitions → Option FunctionDefinition → Document → Type 0
 FitsResult E None d = ⊥
 FitsResult E (Some f) d = Fits E (unplaced f.declared) d
 
+-- what an expression may be, where its variables may be what V allows
 abbrev mutual
   pub MayBy : ProgramTree → Allowance → Expression → Document → Type 0
   MayBy P V (Nothing p) d = d ≡ empty
@@ -77,16 +82,22 @@ abbrev mutual
 
   -- what the body of a live clause may be, where the scrutinee may be A and these patterns stand
   -- before
-  pub MayByClauses : ProgramTree → Allowance → (Document → Type 0) → List PlacedTree → Clauses → Document → Type 0
+  pub MayByClauses :
+      ProgramTree → Allowance → (Document → Type 0) → List PlacedTree → Clauses → Document → Type 0
   MayByClauses P V A earlier no_clause d = ⊥
   MayByClauses P V A earlier (clause Q e cs) d =
-      (IsLive (names_of P) A earlier Q × MayBy P (in_clause (names_of P) A earlier Q V) e d) ⊎ MayByClauses P V A (Q ∷ earlier) cs d
+      (IsLive (names_of P) A earlier Q × MayBy P (in_clause (names_of P) A earlier Q V) e d)
+      ⊎ MayByClauses P V A (Q ∷ earlier) cs d
 
--- what a variable may be: its newest entry decides; a parameter is what fits its type
+-- What a variable may be: its newest entry decides; a parameter is what fits its type. The entry of
+-- a clause allows what `MayByClauses` counts on in its body: with `V = Allows P S`,
+-- `in_clause (names_of P) (MayBy P V e) earlier Q V` is `Allows P (clause_entry e earlier Q ∷ S)`.
 abbrev pub Allows : ProgramTree → Scope → Allowance
 Allows P [] x d = ⊥
-Allows P (parameter_entry y T ∷ S) x d = WhereTrue (bytes_eq y x) (Fits (names_of P) (unplaced T) d) (Allows P S x d)
-Allows P (clause_entry e earlier Q ∷ S) x d = in_clause (names_of P) (MayBy P (Allows P S) e) earlier Q (Allows P S) x d
+Allows P (parameter_entry y T ∷ S) x d =
+    WhereTrue (bytes_eq y x) (Fits (names_of P) (unplaced T) d) (Allows P S x d)
+Allows P (clause_entry e earlier Q ∷ S) x d =
+    in_clause (names_of P) (MayBy P (Allows P S) e) earlier Q (Allows P S) x d
 
 -- what an expression may be
 abbrev pub May : ProgramTree → Scope → Expression → Document → Type 0

@@ -11,6 +11,7 @@ use Rattle.xd_syntax.specs.declared.fault.Fault.{Fault}
 use Rattle.xd_syntax.specs.declared.fault.FaultKind.{FaultKind}
 use Rattle.xd_syntax.specs.declared.fault.FaultKind.TheVariants.{DuplicateName, UnknownType, UnknownFunction, UnknownVariable, Arity, NotLinear}
 
+-- a fault of this kind, at this place
 abbrev pub fault_at : Place → FaultKind → Fault
 fault_at p kind = record { place = Some p; kind = kind }
 
@@ -26,18 +27,23 @@ pub record Spot : Type 0 where
 -- Each word that was seen before has a fault.
 abbrev pub duplicates : List (List ℕ) → List Spot → List Fault
 duplicates seen [] = []
-duplicates seen (s ∷ ss) = fault_if (has_word seen s.word) s.place (DuplicateName s.word) ++ duplicates (s.word ∷ seen) ss
+duplicates seen (s ∷ ss) =
+    fault_if (has_word seen s.word) s.place (DuplicateName s.word) ++ duplicates (s.word ∷ seen) ss
+
+-- this word at this place
+abbrev pub spot : List ℕ → Place → Spot
+spot x p = record { word = x; place = p }
 
 -- the words and places of the parameters of one function
 abbrev pub parameter_spots : List Parameter → List Spot
-parameter_spots ps = map (λ (p : Parameter). let s : Spot = record { word = p.name; place = p.place } in s) ps
+parameter_spots ps = map (λ (p : Parameter). spot p.name p.place) ps
 
 -- Names of types, of functions and of parameters are separate. `String` and `Any` count as seen
 -- among types.
 abbrev pub duplicate_names : ProgramTree → List Fault
 duplicate_names p =
-    duplicates (string_word ∷ (any_word ∷ [])) (map (λ (t : TypeDefinition). let s : Spot = record { word = t.name; place = t.place } in s) p.types)
-    ++ duplicates [] (map (λ (f : FunctionDefinition). let s : Spot = record { word = f.name; place = f.place } in s) p.functions)
+    duplicates (string_word ∷ (any_word ∷ [])) (map (λ (t : TypeDefinition). spot t.name t.place) p.types)
+    ++ duplicates [] (map (λ (f : FunctionDefinition). spot f.name f.place) p.functions)
     ++ flat_map (λ (f : FunctionDefinition). duplicates [] (parameter_spots f.parameters)) p.functions
 
 -- the names of types that are defined
@@ -69,15 +75,23 @@ lacking_somewhere A = filter (λ x. not (in_each_branch x A)) (variables A)
 abbrev pub without : List (List ℕ) → List (List ℕ) → List (List ℕ)
 without gone xs = filter (λ x. not (has_word gone x)) xs
 
+-- An occurrence of a variable is not linear where it stands under `*`, `+` or `?`; where an earlier
+-- one of the same variable stands, but in another branch of an alternative; and where it is the
+-- first one of an alternative of which some branch lacks the variable. The definitions below mark
+-- occurrences from the inside out: each form marks what its own rule makes wrong among the
+-- occurrences of its parts.
+
 -- an occurrence of a variable, and whether a rule that was looked at makes it wrong
 pub record Occurrence : Type 0 where
   pub word : List ℕ
   pub place : Place
   pub is_wrong : Bool
 
+-- an occurrence that no rule was looked at for
 abbrev pub occurrence : List ℕ → Place → Occurrence
 occurrence x p = record { word = x; place = p; is_wrong = false }
 
+-- marked where the test holds
 abbrev pub wrong_if : Bool → Occurrence → Occurrence
 wrong_if b o = record o { is_wrong = o.is_wrong || b }
 
@@ -113,11 +127,15 @@ occurrences_in _ = []
 
 -- the occurrences of variables that are not linear
 abbrev pub linearity_faults : PlacedTree → List Fault
-linearity_faults P = flat_map (λ (o : Occurrence). fault_if o.is_wrong o.place (NotLinear o.word)) (by_branches P (occurrences_in P))
+linearity_faults P =
+    flat_map (λ (o : Occurrence). fault_if o.is_wrong o.place (NotLinear o.word))
+    (by_branches P (occurrences_in P))
 
+-- the faults of a clause's pattern
 abbrev pub pattern_faults : List (List ℕ) → PlacedTree → List Fault
 pattern_faults known P = unknown_types known P ++ linearity_faults P
 
+-- how many arguments a call has
 abbrev pub argument_count : Arguments → ℕ
 argument_count no_argument = 0
 argument_count (argument e es) = argument_count es + 1
@@ -126,7 +144,8 @@ argument_count (argument e es) = argument_count es + 1
 -- wants
 abbrev pub call_faults : Option FunctionDefinition → Place → List ℕ → ℕ → List Fault
 call_faults None p f given = fault_at p (UnknownFunction f) ∷ []
-call_faults (Some g) p f given = fault_if (not (nat_eq given (length g.parameters))) p (Arity f given (length g.parameters))
+call_faults (Some g) p f given =
+    fault_if (not (nat_eq given (length g.parameters))) p (Arity f given (length g.parameters))
 
 -- the faults of an expression, where these variables are in scope
 abbrev mutual
@@ -134,7 +153,8 @@ abbrev mutual
   expression_faults P scope (Variable p x) = fault_if (not (has_word scope x)) p (UnknownVariable x)
   expression_faults P scope (Tagged p l e) = expression_faults P scope e
   expression_faults P scope (Joined p e f) = expression_faults P scope e ++ expression_faults P scope f
-  expression_faults P scope (Called p f es) = call_faults (function_of P.functions f) p f (argument_count es) ++ argument_faults P scope es
+  expression_faults P scope (Called p f es) =
+      call_faults (function_of P.functions f) p f (argument_count es) ++ argument_faults P scope es
   expression_faults P scope (Matched p e cs) = expression_faults P scope e ++ clause_faults P scope cs
   expression_faults P scope _ = []
 
@@ -145,8 +165,10 @@ abbrev mutual
   pub clause_faults : ProgramTree → List (List ℕ) → Clauses → List Fault
   clause_faults P scope no_clause = []
   clause_faults P scope (clause A e cs) =
-      pattern_faults (known_types P) A ++ expression_faults P (variables A ++ scope) e ++ clause_faults P scope cs
+      pattern_faults (known_types P) A ++ expression_faults P (variables A ++ scope) e
+      ++ clause_faults P scope cs
 
+-- the faults of a function's types, and of its body, where its parameters are in scope
 abbrev pub function_faults : ProgramTree → FunctionDefinition → List Fault
 function_faults P f =
     flat_map (λ (q : Parameter). unknown_types (known_types P) q.declared) f.parameters

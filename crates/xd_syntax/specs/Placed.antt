@@ -52,6 +52,7 @@ placed_seq p [] = Empty_at p
 placed_seq p (t ∷ []) = t
 placed_seq p (t ∷ (u ∷ us)) = Seq_at p t (placed_seq (place_of u) (u ∷ us))
 
+-- the same of the parts of an alternative
 abbrev pub placed_alt : Place → List PlacedTree → PlacedTree
 placed_alt p [] = Empty_at p
 placed_alt p (t ∷ []) = t

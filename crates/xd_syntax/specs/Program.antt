@@ -6,16 +6,19 @@ use Rattle.xd_syntax.specs.Tree.{Definitions, environment}
 use Rattle.xd_syntax.specs.Placed.{PlacedTree, unplaced}
 use Rattle.xd_syntax.specs.Expression.{Expression}
 
+-- `type NAME = TYPE`, with the place of the name
 pub record TypeDefinition : Type 0 where
   pub name : List ℕ
   pub place : Place
   pub body : PlacedTree
 
+-- `NAME as TYPE`, with the place of the name
 pub record Parameter : Type 0 where
   pub name : List ℕ
   pub place : Place
   pub declared : PlacedTree
 
+-- a function with its parameters, the type that its result has to fit, and its body
 pub record FunctionDefinition : Type 0 where
   pub name : List ℕ
   pub place : Place
@@ -23,6 +26,7 @@ pub record FunctionDefinition : Type 0 where
   pub declared : PlacedTree
   pub body : Expression
 
+-- the definitions of types and those of functions, each in order
 pub record ProgramTree : Type 0 where
   pub types : List TypeDefinition
   pub functions : List FunctionDefinition

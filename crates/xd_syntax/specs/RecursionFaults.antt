@@ -25,6 +25,7 @@ pub record Use : Type 0 where
 abbrev pub not_tail : Use → Use
 not_tail u = record u { is_tail = false }
 
+-- this type stands before it too
 abbrev pub behind_type : Tree → Use → Use
 behind_type T u = record u { before = T ∷ u.before }
 
@@ -39,6 +40,7 @@ top_uses (Opt_at p T) = top_uses T
 top_uses (Val_at p x q T) = top_uses T
 top_uses _ = []
 
+-- the empty document fits each of these types
 abbrev pub AllCanBeEmpty : Definitions → List Tree → Type 0
 AllCanBeEmpty E [] = Unit {0}
 AllCanBeEmpty E (T ∷ Ts) = Fits E T empty × AllCanBeEmpty E Ts
@@ -55,13 +57,15 @@ placed_body (t ∷ ts) x = cond (bytes_eq t.name x) (Some t.body) (placed_body t
 -- a use of the second name outside every label of the definition of the first, which the fact
 -- allows
 abbrev pub UsesAtTop : ProgramTree → (Use → Type 0) → List ℕ → List ℕ → Type 0
-UsesAtTop P A x y = (T : PlacedTree) × (u : Use) × (placed_body P.types x ≡ Some T) × IsOneOf u (top_uses T) × (u.name ≡ y) × A u
+UsesAtTop P A x y =
+    (T : PlacedTree) × (u : Use) × (placed_body P.types x ≡ Some T) × IsOneOf u (top_uses T) × (u.name ≡ y) × A u
 
 -- a chain of such uses leads from the first name to the second, or they are the same
 pub data Leads (P : ProgramTree) (A : Use → Type 0) : List ℕ → List ℕ → Type 0 where
   arrived : {x : List ℕ} → Leads P A x x
   use_then : {x y z : List ℕ} → UsesAtTop P A x y → Leads P A y z → Leads P A x z
 
+-- allows every use
 abbrev pub AnyUse : Use → Type 0
 AnyUse u = Unit {0}
 
@@ -84,12 +88,17 @@ pub record UseIn : Type 0 where
   pub owner : List ℕ
   pub use_there : Use
 
+-- the uses outside every label of all definitions, in order
 abbrev pub all_top_uses : List TypeDefinition → List UseIn
-all_top_uses ts = flat_map (λ (t : TypeDefinition). map (λ u. let w : UseIn = record { owner = t.name; use_there = u } in w) (top_uses t.body)) ts
+all_top_uses ts =
+    flat_map (λ (t : TypeDefinition).
+    map (λ u. let w : UseIn = record { owner = t.name; use_there = u } in w) (top_uses t.body)) ts
 
+-- the fault of a use outside tail position
 abbrev pub not_tail_fault : UseIn → Fault
 not_tail_fault w = fault_at w.use_there.place (NotTail w.use_there.name)
 
+-- the fault of an unguarded use
 abbrev pub unguarded_fault : UseIn → Fault
 unguarded_fault w = fault_at w.use_there.place (Unguarded w.use_there.name)
 

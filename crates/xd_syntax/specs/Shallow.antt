@@ -1,7 +1,6 @@
--- How deep the types of a table are.
+-- How deep a text may be.
 use Rattle.std.specs.Prelude.{ℕ}
-use Rattle.xd_syntax.specs.declared.TheConstants.{NESTING_LIMIT}
 
--- how deep a text may be nested
+-- how many brackets and parentheses may be open at once
 abbrev pub nesting_limit : ℕ
-nesting_limit = NESTING_LIMIT
+nesting_limit = 256

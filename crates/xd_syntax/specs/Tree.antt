@@ -24,10 +24,12 @@ pub data Tree : Type 0 where
 abbrev pub Definitions : Type 0
 Definitions = List (List ℕ × Tree)
 
+-- what the first definition of a name says
 abbrev pub body : Definitions → List ℕ → Option Tree
 body [] x = None
 body (p ∷ ps) x = cond (bytes_eq p.0 x) (Some p.1) (body ps x)
 
+-- `~`
 abbrev pub all_labels : LabelClass
 all_labels = record { names = []; except = true }
 
@@ -62,12 +64,13 @@ uses_only known (Opt T) = uses_only known T
 uses_only known (Val x T) = uses_only known T
 uses_only known _ = true
 
--- the sequence and the alternative of a list of parts
+-- the sequence of a list of parts
 abbrev pub seq_of : List Tree → Tree
 seq_of [] = Empty
 seq_of (t ∷ []) = t
 seq_of (t ∷ (u ∷ us)) = Seq t (seq_of (u ∷ us))
 
+-- the type of the empty document alone
 abbrev pub is_empty : Tree → Bool
 is_empty Empty = true
 is_empty _ = false

@@ -1,5 +1,5 @@
--- The canonical text of a type, in bytes, and its depth.
-use Rattle.std.specs.Prelude.{ℕ, ◌+◌, max, Bool, true, false, cond, List, [], ◌∷◌, ◌++◌, map, codes}
+-- The canonical text of a type, in bytes.
+use Rattle.std.specs.Prelude.{ℕ, Bool, true, false, cond, List, [], ◌∷◌, ◌++◌, map, codes}
 use Rattle.xd_doc.specs.Document.{escaped_all}
 use Rattle.xd_doc.specs.Classes.{LabelClass, TextClass}
 use Rattle.xd_syntax.specs.Tree.{Tree, Empty, Text, Words, Name, Elem, Seq, Alt, Star, Plus, Opt, Val, is_empty}
@@ -13,6 +13,7 @@ pub data Level : Type 0 where
   postfix_level : Level
   primary_level : Level
 
+-- `(`, the text and `)`
 abbrev pub in_parentheses : List ℕ → List ℕ
 in_parentheses s = codes "(" ++ s ++ codes ")"
 
@@ -21,15 +22,18 @@ abbrev pub alternative_wants : Level → Bool
 alternative_wants any_type_level = false
 alternative_wants _ = true
 
+-- all but an alternative and a sequence itself
 abbrev pub sequence_wants : Level → Bool
 sequence_wants any_type_level = false
 sequence_wants sequence_level = false
 sequence_wants _ = true
 
+-- a part of a postfix operator alone
 abbrev pub postfix_wants : Level → Bool
 postfix_wants primary_level = true
 postfix_wants _ = false
 
+-- in parentheses where they are wanted
 abbrev pub parted : Bool → List ℕ → List ℕ
 parted b s = cond b (in_parentheses s) s
 
@@ -50,16 +54,17 @@ abbrev pub excepted_text : List (List ℕ) → List ℕ
 excepted_text [] = codes "~"
 excepted_text (w ∷ ws) = codes "^" ++ labels_text (w ∷ ws)
 
+-- the class of an element's labels
 abbrev pub class_text : LabelClass → List ℕ
 class_text c = cond c.except (excepted_text c.names) (labels_text c.names)
 
 -- a text in quotes
-abbrev pub quoted : List ℕ → List ℕ
-quoted s = codes "\"" ++ escaped_all s ++ codes "\""
+abbrev pub quoted_text : List ℕ → List ℕ
+quoted_text s = codes "\"" ++ escaped_all s ++ codes "\""
 
 -- one text stands alone, or after `^`; more stand after `^` in parentheses
 abbrev pub words_text : TextClass → List ℕ
-words_text w = cond w.except (codes "^") [] ++ labels_text (map quoted w.names)
+words_text w = cond w.except (codes "^") [] ++ labels_text (map quoted_text w.names)
 
 -- the text at a level; nothing is written for the empty content of an element
 abbrev pub text_at_level : Level → Tree → List ℕ
@@ -67,37 +72,17 @@ text_at_level v Empty = codes "()"
 text_at_level v Text = string_word
 text_at_level v (Words w) = words_text w
 text_at_level v (Name x) = x
-text_at_level v (Elem c T) = class_text c ++ codes "[" ++ cond (is_empty T) [] (text_at_level any_type_level T) ++ codes "]"
-text_at_level v (Seq T U) = parted (sequence_wants v) (text_at_level postfix_level T ++ codes "," ++ text_at_level sequence_level U)
-text_at_level v (Alt T U) = parted (alternative_wants v) (text_at_level sequence_level T ++ codes "|" ++ text_at_level any_type_level U)
+text_at_level v (Elem c T) =
+    class_text c ++ codes "[" ++ cond (is_empty T) [] (text_at_level any_type_level T) ++ codes "]"
+text_at_level v (Seq T U) =
+    parted (sequence_wants v) (text_at_level postfix_level T ++ codes "," ++ text_at_level sequence_level U)
+text_at_level v (Alt T U) =
+    parted (alternative_wants v) (text_at_level sequence_level T ++ codes "|" ++ text_at_level any_type_level U)
 text_at_level v (Star T) = parted (postfix_wants v) (text_at_level primary_level T ++ codes "*")
 text_at_level v (Plus T) = parted (postfix_wants v) (text_at_level primary_level T ++ codes "+")
 text_at_level v (Opt T) = parted (postfix_wants v) (text_at_level primary_level T ++ codes "?")
 text_at_level v (Val x T) = text_at_level v T
 
+-- the text of a type by itself
 abbrev pub type_text : Tree → List ℕ
 type_text T = text_at_level any_type_level T
-
-abbrev pub deeper : Bool → ℕ → ℕ
-deeper b n = cond b (n + 1) n
-
--- a list of more than one stands in parentheses
-abbrev pub list_depth : List (List ℕ) → ℕ
-list_depth (s ∷ (t ∷ ts)) = 1
-list_depth _ = 0
-
--- how many brackets and parentheses are open at most, the class lists' too
-abbrev pub depth_at_level : Level → Tree → ℕ
-depth_at_level v Empty = 1
-depth_at_level v (Words w) = list_depth w.names
-depth_at_level v (Elem c T) = cond (is_empty T) 0 (depth_at_level any_type_level T) + 1
-depth_at_level v (Seq T U) = deeper (sequence_wants v) (max (depth_at_level postfix_level T) (depth_at_level sequence_level U))
-depth_at_level v (Alt T U) = deeper (alternative_wants v) (max (depth_at_level sequence_level T) (depth_at_level any_type_level U))
-depth_at_level v (Star T) = deeper (postfix_wants v) (depth_at_level primary_level T)
-depth_at_level v (Plus T) = deeper (postfix_wants v) (depth_at_level primary_level T)
-depth_at_level v (Opt T) = deeper (postfix_wants v) (depth_at_level primary_level T)
-depth_at_level v (Val x T) = depth_at_level v T
-depth_at_level v _ = 0
-
-abbrev pub depth : Tree → ℕ
-depth T = depth_at_level any_type_level T

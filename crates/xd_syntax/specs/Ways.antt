@@ -36,12 +36,16 @@ item_count (element l c r) = item_count r + 1
 abbrev pub turns : (Document → List Way) → ℕ → Document → List Way
 turns V zero d = no_item_way d ∷ []
 turns V (suc k) d =
-    flat_map (λ v. cond (nat_lt (item_count v.rest) (item_count d)) (map (then_way v) (turns V k v.rest)) []) (V d) ++ no_item_way d ∷ []
+    flat_map
+    (λ v. cond (nat_lt (item_count v.rest) (item_count d)) (map (then_way v) (turns V k v.rest)) [])
+    (V d)
+    ++ no_item_way d ∷ []
 
 -- no more turns than there are items
 abbrev pub repetition : (Document → List Way) → Document → List Way
 repetition V d = turns V (item_count d) d
 
+-- any text
 abbrev pub text_ways : Document → List Way
 text_ways empty = []
 text_ways (text s r) = record { bindings = []; taken = text s empty; rest = r } ∷ []
@@ -50,7 +54,7 @@ text_ways (element l c r) = []
 -- a text of the class
 abbrev pub words_ways : TextClass → Document → List Way
 words_ways w empty = []
-words_ways w (text s r) = cond (class_has w s) (record { bindings = []; taken = text s empty; rest = r } ∷ []) []
+words_ways w (text s r) = cond (class_has w s) (text_ways (text s r)) []
 words_ways w (element l c r) = []
 
 -- the rest is empty
@@ -63,14 +67,18 @@ element_ways k V empty = []
 element_ways k V (text s r) = []
 element_ways k V (element l c r) =
     cond (class_has k l)
-    (flat_map (λ v. cond (is_whole v) (record { bindings = v.bindings; taken = element l c empty; rest = r } ∷ []) []) (V c))
+    (flat_map
+    (λ v. cond (is_whole v) (record { bindings = v.bindings; taken = element l c empty; rest = r } ∷ []) [])
+    (V c))
     []
 
 -- the variable is bound to what the way takes
 abbrev pub binding : List ℕ → Way → Way
 binding x v = record v { bindings = (x, v.taken) ∷ v.bindings }
 
--- the ways of a pattern, where N gives those of names
+-- The ways of a pattern, where N gives those of names. On `a[],a[]` the pattern
+-- `val x as a[]*,val y as a[]*` has six: x takes both items, and y none; x takes the first, and y
+-- the second or none; x takes none, and y both, the first, or none. The first of them is preferred.
 abbrev pub ways_by : (List ℕ → Document → List Way) → Tree → Document → List Way
 ways_by N Empty d = no_item_way d ∷ []
 ways_by N Text d = text_ways d
@@ -84,6 +92,7 @@ ways_by N (Plus T) d = in_turn (ways_by N T) (repetition (ways_by N T)) d
 ways_by N (Opt T) d = ways_by N T d ++ no_item_way d ∷ []
 ways_by N (Val x T) d = map (binding x) (ways_by N T d)
 
+-- those of what a name is defined as
 abbrev pub ways_of_definition : (Tree → Document → List Way) → Option Tree → Document → List Way
 ways_of_definition F None d = []
 ways_of_definition F (Some T) d = F T d
@@ -94,6 +103,7 @@ abbrev pub ways_of_name : Definitions → ℕ → List ℕ → Document → List
 ways_of_name E zero x d = []
 ways_of_name E (suc n) x d = ways_of_definition (ways_by (ways_of_name E n)) (body E x) d
 
+-- the ways of a pattern within so many unfoldings of names
 abbrev pub ways_within : Definitions → ℕ → Tree → Document → List Way
 ways_within E n P d = ways_by (ways_of_name E n) P d
 
@@ -101,6 +111,7 @@ ways_within E n P d = ways_by (ways_of_name E n) P d
 abbrev pub unfoldings : Definitions → Document → ℕ
 unfoldings E d = (size d + 1) * (length E + 1)
 
+-- the ways of a pattern, in order of preference
 abbrev pub ways : Definitions → Tree → Document → List Way
 ways E P d = ways_within E (unfoldings E d) P d
 

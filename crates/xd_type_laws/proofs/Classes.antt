@@ -19,7 +19,8 @@ use Rattle.xd_lex.proofs.Symbols.{EndsWord, a_word, paren_l, paren_r, bracket_l,
 use Rattle.xd_syntax.specs.Words.{has_word, string_word}
 use Rattle.xd_syntax.specs.Keywords.{keywords, is_type_name}
 use Rattle.xd_syntax.specs.Tree.{Tree, Empty, Text, Words, Name, Elem}
-use Rattle.xd_syntax.specs.TypeText.{quoted, barred, labels_text, excepted_text, list_depth}
+use Rattle.xd_syntax.specs.TypeText.{quoted_text, barred, labels_text, excepted_text}
+use Rattle.xd_syntax.specs.TypeDepth.{list_depth}
 use Rattle.xd_syntax.specs.Placed.{PlacedTree, unplaced, Text_at, Words_at, Name_at, Elem_at, Empty_at}
 use Rattle.xd_syntax.proofs.Words.{bytes_eq-turned}
 use Rattle.xd_grammar.specs.declared.grammar.Nonterminal.TheVariants as n
@@ -137,21 +138,21 @@ more_names l d p (w ∷ ws) rest a =
     (more_names l d (past (past p (124 ∷ [])) w) ws rest a.1)))
 
 -- ---- lists of texts
-text_value : (s : List ℕ) (p : Place) → token_of t.Text (quoted s) p ≡ a_quoted s p
+text_value : (s : List ℕ) (p : Place) → token_of t.Text (quoted_text s) p ≡ a_quoted s p
 text_value s p = ap (λ x. a_quoted x p) (unescaped-escaped s)
 
-more_texts : (l d : ℕ) (p : Place) (ss : List (List ℕ)) (rest : List ℕ) → Reads l d (Part n.MoreTexts ∷ []) d p (bars (map quoted ss)) (41 ∷ rest) (texts ss ∷ [])
+more_texts : (l d : ℕ) (p : Place) (ss : List (List ℕ)) (rest : List ℕ) → Reads l d (Part n.MoreTexts ∷ []) d p (bars (map quoted_text ss)) (41 ∷ rest) (texts ss ∷ [])
 more_texts l d p [] rest =
     read_alone l d d n.MoreTexts (Unless t.Bar ∷ []) p [] (41 ∷ rest) [] (inr (inl refl))
     (read_unless l d d t.Bar t.ParenR [] p [] (41 ∷ rest) [] (λ e. cc) (starts_token kinds.ParenR t.ParenR (41 ∷ []) rest (paren_r rest) refl) (read_end l d p (41 ∷ rest)))
 more_texts l d p (s ∷ ss) rest =
     let q = past p (124 ∷ []) in
-    let b = bars (map quoted ss) in
-    read_alone l d d n.MoreTexts (Token t.Bar ∷ Token t.Text ∷ Part n.MoreTexts ∷ []) p (124 ∷ (quoted s ++ b)) (41 ∷ rest) (mark t.Bar p ∷ (a_quoted s q ∷ (texts ss ∷ []))) (inl refl)
-    (read_token l d d (Token t.Text ∷ Part n.MoreTexts ∷ []) p kinds.Bar t.Bar (124 ∷ []) (quoted s ++ b) (41 ∷ rest) (a_quoted s q ∷ (texts ss ∷ [])) (bar ((quoted s ++ b) ++ 41 ∷ rest)) refl
-    (subst (λ v. Reads l d (Token t.Text ∷ Part n.MoreTexts ∷ []) d q (quoted s ++ b) (41 ∷ rest) (v ∷ (texts ss ∷ []))) (text_value s q)
-    (read_token l d d (Part n.MoreTexts ∷ []) q kinds.Text t.Text (quoted s) b (41 ∷ rest) (texts ss ∷ []) (λ o. tokens-quoted o s (b ++ 41 ∷ rest)) refl
-    (more_texts l d (past q (quoted s)) ss rest))))
+    let b = bars (map quoted_text ss) in
+    read_alone l d d n.MoreTexts (Token t.Bar ∷ Token t.Text ∷ Part n.MoreTexts ∷ []) p (124 ∷ (quoted_text s ++ b)) (41 ∷ rest) (mark t.Bar p ∷ (a_quoted s q ∷ (texts ss ∷ []))) (inl refl)
+    (read_token l d d (Token t.Text ∷ Part n.MoreTexts ∷ []) p kinds.Bar t.Bar (124 ∷ []) (quoted_text s ++ b) (41 ∷ rest) (a_quoted s q ∷ (texts ss ∷ [])) (bar ((quoted_text s ++ b) ++ 41 ∷ rest)) refl
+    (subst (λ v. Reads l d (Token t.Text ∷ Part n.MoreTexts ∷ []) d q (quoted_text s ++ b) (41 ∷ rest) (v ∷ (texts ss ∷ []))) (text_value s q)
+    (read_token l d d (Part n.MoreTexts ∷ []) q kinds.Text t.Text (quoted_text s) b (41 ∷ rest) (texts ss ∷ []) (λ o. tokens-quoted o s (b ++ 41 ∷ rest)) refl
+    (more_texts l d (past q (quoted_text s)) ss rest))))
 
 -- ---- classes of texts
 pub same_class : (c : NameClass) → IsTextClass c → class_of c.except c.names ≡ c
@@ -160,22 +161,22 @@ same_class c h = sym (class_made c c.names c.except h.sorted (λ l. refl) refl)
 pub same_labels : (c : NameClass) → IsClass c → class_of c.except c.names ≡ c
 same_labels c h = sym (class_made c c.names c.except h.sorted (λ l. refl) refl)
 
-pub one_text : (s : List ℕ) (c : NameClass) → class_of false (s ∷ []) ≡ c → Spells prim behind_prim (quoted s) (Words c) 0
+pub one_text : (s : List ℕ) (c : NameClass) → class_of false (s ∷ []) ≡ c → Spells prim behind_prim (quoted_text s) (Words c) 0
 one_text s c e = record {
   some = omega arith;
   front = refl;
   read = λ l d p rest k f. (
     Words_at p (class_of false (s ∷ [])),
     ap Words e,
-    read_alone l d d prim (Token t.Text ∷ []) p (quoted s) rest (a_quoted s p ∷ []) (inr (inr (inl refl)))
-        (same_bytes l d d (Token t.Text ∷ []) p (quoted s ++ []) (quoted s) rest _ (append-nil (quoted s))
-        (subst (λ v. Reads l d (Token t.Text ∷ []) d p (quoted s ++ []) rest (v ∷ [])) (text_value s p)
-        (read_token l d d [] p kinds.Text t.Text (quoted s) [] rest [] (λ o. tokens-quoted o s rest) refl (read_end l d _ rest)))),
+    read_alone l d d prim (Token t.Text ∷ []) p (quoted_text s) rest (a_quoted s p ∷ []) (inr (inr (inl refl)))
+        (same_bytes l d d (Token t.Text ∷ []) p (quoted_text s ++ []) (quoted_text s) rest _ (append-nil (quoted_text s))
+        (subst (λ v. Reads l d (Token t.Text ∷ []) d p (quoted_text s ++ []) rest (v ∷ [])) (text_value s p)
+        (read_token l d d [] p kinds.Text t.Text (quoted_text s) [] rest [] (λ o. tokens-quoted o s rest) refl (read_end l d _ rest)))),
   );
 }
 
 -- after a `^`
-pub but_one_text : (s : List ℕ) (c : NameClass) → class_of true (s ∷ []) ≡ c → Spells prim behind_prim (94 ∷ quoted s) (Words c) 0
+pub but_one_text : (s : List ℕ) (c : NameClass) → class_of true (s ∷ []) ≡ c → Spells prim behind_prim (94 ∷ quoted_text s) (Words c) 0
 but_one_text s c e = record {
   some = omega arith;
   front = refl;
@@ -183,12 +184,12 @@ but_one_text s c e = record {
       let q = past p (94 ∷ []) in (
         Words_at p (class_of true (s ∷ [])),
         ap Words e,
-        read_alone l d d prim (Token t.Caret ∷ Part (n.Excepted sorts.Type) ∷ []) p (94 ∷ quoted s) rest (mark t.Caret p ∷ (texts (s ∷ []) ∷ [])) (inr (inr (inr (inl refl))))
-            (read_token l d d (Part (n.Excepted sorts.Type) ∷ []) p kinds.Caret t.Caret (94 ∷ []) (quoted s) rest _ (caret (quoted s ++ rest)) refl
-            (read_alone l d d (n.Excepted sorts.Type) (Token t.Text ∷ []) q (quoted s) rest (a_quoted s q ∷ []) (inl refl)
-            (same_bytes l d d (Token t.Text ∷ []) q (quoted s ++ []) (quoted s) rest _ (append-nil (quoted s))
-            (subst (λ v. Reads l d (Token t.Text ∷ []) d q (quoted s ++ []) rest (v ∷ [])) (text_value s q)
-            (read_token l d d [] q kinds.Text t.Text (quoted s) [] rest [] (λ o. tokens-quoted o s rest) refl (read_end l d _ rest)))))),
+        read_alone l d d prim (Token t.Caret ∷ Part (n.Excepted sorts.Type) ∷ []) p (94 ∷ quoted_text s) rest (mark t.Caret p ∷ (texts (s ∷ []) ∷ [])) (inr (inr (inr (inl refl))))
+            (read_token l d d (Part (n.Excepted sorts.Type) ∷ []) p kinds.Caret t.Caret (94 ∷ []) (quoted_text s) rest _ (caret (quoted_text s ++ rest)) refl
+            (read_alone l d d (n.Excepted sorts.Type) (Token t.Text ∷ []) q (quoted_text s) rest (a_quoted s q ∷ []) (inl refl)
+            (same_bytes l d d (Token t.Text ∷ []) q (quoted_text s ++ []) (quoted_text s) rest _ (append-nil (quoted_text s))
+            (subst (λ v. Reads l d (Token t.Text ∷ []) d q (quoted_text s ++ []) rest (v ∷ [])) (text_value s q)
+            (read_token l d d [] q kinds.Text t.Text (quoted_text s) [] rest [] (λ o. tokens-quoted o s rest) refl (read_end l d _ rest)))))),
       );
 }
 
@@ -199,24 +200,24 @@ labels_text_is : (w : List ℕ) (ws : List (List ℕ)) → 0 < length ws → lab
 labels_text_is w [] h = absurd (omega (arith, h))
 labels_text_is w (v ∷ vs) h = ap (λ x. (40 ∷ x) ++ 41 ∷ []) (barred_is w (v ∷ vs)) ∙ ap (λ x. 40 ∷ x) (append_assoc w (bars (v ∷ vs)) (41 ∷ []))
 
-pub but_texts : (s : List ℕ) (ss : List (List ℕ)) (c : NameClass) → class_of true (s ∷ ss) ≡ c → Spells prim behind_prim (94 ∷ listed (quoted s) (map quoted ss)) (Words c) 1
+pub but_texts : (s : List ℕ) (ss : List (List ℕ)) (c : NameClass) → class_of true (s ∷ ss) ≡ c → Spells prim behind_prim (94 ∷ listed (quoted_text s) (map quoted_text ss)) (Words c) 1
 but_texts s ss c e = record {
   some = omega arith;
   front = refl;
   read = λ l d p rest k f.
       let q = past p (94 ∷ []) in
       let r = past q (40 ∷ []) in
-      let b = bars (map quoted ss) in (
+      let b = bars (map quoted_text ss) in (
         Words_at p (class_of true (s ∷ ss)),
         ap Words e,
-        read_alone l d d prim (Token t.Caret ∷ Part (n.Excepted sorts.Type) ∷ []) p (94 ∷ (40 ∷ (quoted s ++ (b ++ 41 ∷ [])))) rest (mark t.Caret p ∷ (texts (s ∷ ss) ∷ [])) (inr (inr (inr (inl refl))))
-            (read_token l d d (Part (n.Excepted sorts.Type) ∷ []) p kinds.Caret t.Caret (94 ∷ []) (40 ∷ (quoted s ++ (b ++ 41 ∷ []))) rest _ (caret _) refl
-            (read_alone l d d (n.Excepted sorts.Type) (Opening t.ParenL ∷ Part (n.ExceptedList sorts.Type) ∷ []) q (40 ∷ (quoted s ++ (b ++ 41 ∷ []))) rest (mark t.ParenL q ∷ (texts (s ∷ ss) ∷ [])) (inr (inr (inl refl)))
-            (read_opening l d d (Part (n.ExceptedList sorts.Type) ∷ []) q kinds.ParenL t.ParenL (40 ∷ []) (quoted s ++ (b ++ 41 ∷ [])) rest _ (paren_l _ refl) refl (omega (arith, k))
-            (read_alone l (suc d) d (n.ExceptedList sorts.Type) (Token t.Text ∷ Part n.MoreTexts ∷ Token t.ParenR ∷ Closed ∷ []) r (quoted s ++ (b ++ 41 ∷ [])) rest (a_quoted s r ∷ (texts ss ∷ (mark t.ParenR (past (past r (quoted s)) b) ∷ []))) (inl refl)
-            (subst (λ v. Reads l (suc d) (Token t.Text ∷ Part n.MoreTexts ∷ Token t.ParenR ∷ Closed ∷ []) d r (quoted s ++ (b ++ 41 ∷ [])) rest (v ∷ (texts ss ∷ (mark t.ParenR (past (past r (quoted s)) b) ∷ [])))) (text_value s r)
-            (read_token l (suc d) d (Part n.MoreTexts ∷ Token t.ParenR ∷ Closed ∷ []) r kinds.Text t.Text (quoted s) (b ++ 41 ∷ []) rest _ (λ o. tokens-quoted o s ((b ++ 41 ∷ []) ++ rest)) refl
-            (read_then l (suc d) (suc d) d n.MoreTexts (Token t.ParenR ∷ Closed ∷ []) (past r (quoted s)) b (41 ∷ []) rest (texts ss) _ (more_texts l (suc d) (past r (quoted s)) ss rest)
+        read_alone l d d prim (Token t.Caret ∷ Part (n.Excepted sorts.Type) ∷ []) p (94 ∷ (40 ∷ (quoted_text s ++ (b ++ 41 ∷ [])))) rest (mark t.Caret p ∷ (texts (s ∷ ss) ∷ [])) (inr (inr (inr (inl refl))))
+            (read_token l d d (Part (n.Excepted sorts.Type) ∷ []) p kinds.Caret t.Caret (94 ∷ []) (40 ∷ (quoted_text s ++ (b ++ 41 ∷ []))) rest _ (caret _) refl
+            (read_alone l d d (n.Excepted sorts.Type) (Opening t.ParenL ∷ Part (n.ExceptedList sorts.Type) ∷ []) q (40 ∷ (quoted_text s ++ (b ++ 41 ∷ []))) rest (mark t.ParenL q ∷ (texts (s ∷ ss) ∷ [])) (inr (inr (inl refl)))
+            (read_opening l d d (Part (n.ExceptedList sorts.Type) ∷ []) q kinds.ParenL t.ParenL (40 ∷ []) (quoted_text s ++ (b ++ 41 ∷ [])) rest _ (paren_l _ refl) refl (omega (arith, k))
+            (read_alone l (suc d) d (n.ExceptedList sorts.Type) (Token t.Text ∷ Part n.MoreTexts ∷ Token t.ParenR ∷ Closed ∷ []) r (quoted_text s ++ (b ++ 41 ∷ [])) rest (a_quoted s r ∷ (texts ss ∷ (mark t.ParenR (past (past r (quoted_text s)) b) ∷ []))) (inl refl)
+            (subst (λ v. Reads l (suc d) (Token t.Text ∷ Part n.MoreTexts ∷ Token t.ParenR ∷ Closed ∷ []) d r (quoted_text s ++ (b ++ 41 ∷ [])) rest (v ∷ (texts ss ∷ (mark t.ParenR (past (past r (quoted_text s)) b) ∷ [])))) (text_value s r)
+            (read_token l (suc d) d (Part n.MoreTexts ∷ Token t.ParenR ∷ Closed ∷ []) r kinds.Text t.Text (quoted_text s) (b ++ 41 ∷ []) rest _ (λ o. tokens-quoted o s ((b ++ 41 ∷ []) ++ rest)) refl
+            (read_then l (suc d) (suc d) d n.MoreTexts (Token t.ParenR ∷ Closed ∷ []) (past r (quoted_text s)) b (41 ∷ []) rest (texts ss) _ (more_texts l (suc d) (past r (quoted_text s)) ss rest)
             (read_token l (suc d) d (Closed ∷ []) _ kinds.ParenR t.ParenR (41 ∷ []) [] rest [] (paren_r rest) refl (read_closed l d d [] _ [] rest [] (read_end l d _ rest)))))))))),
       );
 }
@@ -402,10 +403,10 @@ element true (w ∷ (v ∷ vs)) s c T k e ok h a pos = respelled _ _ (Elem c T) 
         sym (ap (λ x. (((94 ∷ x) ++ 91 ∷ []) ++ s) ++ 93 ∷ []) (labels_text_is w ws h) ∙ ap (λ x. 94 ∷ (40 ∷ x)) e)
 
 -- ---- any class of texts
-pub words_spelled : (b : Bool) (ns : List (List ℕ)) (c : NameClass) → class_of b ns ≡ c → (1 ≤ length ns) × ((b ≡ true) ⊎ (length ns ≡ 1)) → Spells prim behind_prim (cond b (codes "^") [] ++ labels_text (map quoted ns)) (Words c) (list_depth ns)
+pub words_spelled : (b : Bool) (ns : List (List ℕ)) (c : NameClass) → class_of b ns ≡ c → (1 ≤ length ns) × ((b ≡ true) ⊎ (length ns ≡ 1)) → Spells prim behind_prim (cond b (codes "^") [] ++ labels_text (map quoted_text ns)) (Words c) (list_depth ns)
 words_spelled b [] c e (h, k) = absurd (omega (arith, h))
 words_spelled false (s ∷ []) c e h = one_text s c e
 words_spelled false (s ∷ (t ∷ ts)) c e (h, inl k) = absurd (cc)
 words_spelled false (s ∷ (t ∷ ts)) c e (h, inr k) = absurd (omega (arith, k))
 words_spelled true (s ∷ []) c e h = but_one_text s c e
-words_spelled true (s ∷ (t ∷ ts)) c e h = respelled _ _ (Words c) 1 (ap (λ x. 94 ∷ x) (sym (labels_text_is (quoted s) (map quoted (t ∷ ts)) (omega arith)))) (but_texts s (t ∷ ts) c e)
+words_spelled true (s ∷ (t ∷ ts)) c e h = respelled _ _ (Words c) 1 (ap (λ x. 94 ∷ x) (sym (labels_text_is (quoted_text s) (map quoted_text (t ∷ ts)) (omega arith)))) (but_texts s (t ∷ ts) c e)

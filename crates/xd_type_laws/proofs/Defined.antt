@@ -23,7 +23,8 @@ use Rattle.xd_syntax.specs.PlacedTable.{placed_at}
 use Rattle.xd_syntax.specs.Program.{TypeDefinition, ProgramTree}
 use Rattle.xd_syntax.specs.Kept.{TypeDefStands, type_definition, program_tree}
 use Rattle.xd_syntax.specs.ProperTables.{IsTable}
-use Rattle.xd_syntax.specs.TypeText.{any_type_level, type_text, depth}
+use Rattle.xd_syntax.specs.TypeText.{any_type_level, type_text}
+use Rattle.xd_syntax.specs.TypeDepth.{depth}
 use Rattle.xd_type_laws.specs.DefinitionsText.{type_definitions, definition_line, definitions_text}
 use Rattle.xd_syntax.specs.Shallow.{nesting_limit}
 use Rattle.xd_grammar.specs.declared.grammar.Nonterminal.TheVariants as n

@@ -8,7 +8,8 @@ use Rattle.xd_syntax.specs.Tree.{Tree, Empty, Text, Words, Name, Elem, Seq, Alt,
 use Rattle.xd_syntax.specs.TreeForms.{alt_of}
 use Rattle.xd_syntax.specs.Proper.{IsProperTree}
 use Rattle.xd_syntax.specs.Placed.{PlacedTree, unplaced}
-use Rattle.xd_syntax.specs.TypeText.{any_type_level, sequence_level, postfix_level, primary_level, text_at_level, depth_at_level, type_text, depth}
+use Rattle.xd_syntax.specs.TypeText.{any_type_level, sequence_level, postfix_level, primary_level, text_at_level, type_text}
+use Rattle.xd_syntax.specs.TypeDepth.{depth, depth_at_level}
 use Rattle.xd_syntax.specs.Shallow.{nesting_limit}
 use Rattle.xd_grammar.specs.declared.grammar.Nonterminal.TheVariants as n
 use Rattle.xd_grammar.specs.declared.grammar.Sort.TheVariants as sorts

@@ -7,7 +7,7 @@ use Rattle.std.proofs.lemmas.Str.{IsUtf8-append, IsUtf8-nil, IsUtf8-from_is_utf8
 use Rattle.xd_doc.specs.Word.{is_word}
 use Rattle.xd_syntax.specs.Tree.{Tree, Empty, Text, Words, Name, Elem, Seq, Alt, Star, Plus, Opt, Val, is_empty}
 use Rattle.xd_syntax.specs.Proper.{IsProperTree}
-use Rattle.xd_syntax.specs.TypeText.{Level, any_type_level, sequence_level, postfix_level, primary_level, parted, sequence_wants, alternative_wants, postfix_wants, in_parentheses, barred, labels_text, excepted_text, class_text, quoted, text_at_level}
+use Rattle.xd_syntax.specs.TypeText.{Level, any_type_level, sequence_level, postfix_level, primary_level, parted, sequence_wants, alternative_wants, postfix_wants, in_parentheses, barred, labels_text, excepted_text, class_text, quoted_text, text_at_level}
 use Rattle.xd_syntax.specs.Words.{string_word}
 use Rattle.xd_read.proofs.CanonicalLemmas.{cons_ascii, escaped_all_utf8, word_utf8}
 
@@ -51,10 +51,10 @@ labels_utf8 : (ws : List (List ℕ)) → AllByRecursion (λ w. is_word w ≡ tru
 labels_utf8 [] a = tt
 labels_utf8 (w ∷ ws) a = (word_utf8 w a.0, labels_utf8 ws a.1)
 
-quoted_utf8 : (s : List ℕ) → is_utf8 s ≡ true → IsUtf8 (quoted s)
+quoted_utf8 : (s : List ℕ) → is_utf8 s ≡ true → IsUtf8 (quoted_text s)
 quoted_utf8 s h = cons_ascii 34 _ (omega arith) (mark 34 (cons_ascii 34 [] (omega arith) IsUtf8-nil) _ (escaped_all_utf8 [] s (IsUtf8-from_is_utf8 s h)))
 
-texts_utf8 : (ws : List (List ℕ)) → AllByRecursion (λ w. is_utf8 w ≡ true) ws → AllUtf8 (map quoted ws)
+texts_utf8 : (ws : List (List ℕ)) → AllByRecursion (λ w. is_utf8 w ≡ true) ws → AllUtf8 (map quoted_text ws)
 texts_utf8 [] a = tt
 texts_utf8 (w ∷ ws) a = (quoted_utf8 w a.0, texts_utf8 ws a.1)
 
@@ -65,7 +65,7 @@ either false s r u v = v
 pub text_utf8 : (v : Level) (T : Tree) → IsProperTree false T → IsUtf8 (text_at_level v T)
 text_utf8 v Empty p = parens [] IsUtf8-nil
 text_utf8 v Text p = word_utf8 string_word refl
-text_utf8 v (Words w) p = IsUtf8-append (cond w.except (codes "^") []) (labels_text (map quoted w.names)) (either w.except (codes "^") [] (cons_ascii 94 [] (omega arith) IsUtf8-nil) IsUtf8-nil) (list_utf8 (map quoted w.names) (texts_utf8 w.names p.words))
+text_utf8 v (Words w) p = IsUtf8-append (cond w.except (codes "^") []) (labels_text (map quoted_text w.names)) (either w.except (codes "^") [] (cons_ascii 94 [] (omega arith) IsUtf8-nil) IsUtf8-nil) (list_utf8 (map quoted_text w.names) (texts_utf8 w.names p.words))
 text_utf8 v (Name x) p = word_utf8 x p
 text_utf8 v (Elem c T) p =
     let a = labels_utf8 c.names (p.0).words in

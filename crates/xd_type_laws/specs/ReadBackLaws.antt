@@ -11,7 +11,8 @@ use Rattle.xd_syntax.specs.ProperTables.{IsTable}
 use Rattle.xd_syntax.specs.Proper.{IsProperTree}
 use Rattle.xd_syntax.specs.Placed.{PlacedTree, unplaced}
 use Rattle.xd_syntax.specs.Kept.{ProgramTable, IsKept, program_tree}
-use Rattle.xd_syntax.specs.TypeText.{type_text, depth}
+use Rattle.xd_syntax.specs.TypeText.{type_text}
+use Rattle.xd_syntax.specs.TypeDepth.{depth}
 use Rattle.xd_type_laws.specs.DefinitionsText.{type_definitions}
 use Rattle.xd_syntax.specs.Shallow.{nesting_limit}
 use Rattle.xd_grammar.specs.declared.grammar.Nonterminal.TheVariants as n

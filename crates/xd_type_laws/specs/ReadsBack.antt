@@ -3,7 +3,7 @@ use Rattle.std.specs.Prelude.{◌≡◌, ◌≤◌, []}
 use Rattle.std.specs.List.{AllByRecursion}
 use Rattle.xd_syntax.specs.Tree.{Definitions}
 use Rattle.xd_syntax.specs.Program.{ProgramTree}
-use Rattle.xd_syntax.specs.TypeText.{depth}
+use Rattle.xd_syntax.specs.TypeDepth.{depth}
 use Rattle.xd_type_laws.specs.DefinitionsText.{type_definitions, definitions_text}
 use Rattle.xd_syntax.specs.Shallow.{nesting_limit}
 use Rattle.xd_grammar.specs.declared.grammar.Nonterminal.TheVariants as n

@@ -2,7 +2,7 @@
 use Rattle.std.proofs.Common.{◌≡◌, ℕ, zero, suc, false, ◌+◌, ◌<◌, arith, map, take, length, get_or, List, [], ◌∷◌, ◌++◌, ap, sym, ◌∙◌, append_assoc, append-nil}
 use Rattle.std.proofs.lemmas.List.{take_more, map_push, length-map}
 use Rattle.std.specs.Prelude.{◌==◌}
-use Rattle.xd_syntax.specs.TypeText.{barred, labels_text, quoted}
+use Rattle.xd_syntax.specs.TypeText.{barred, labels_text, quoted_text}
 use Rattle.xd_type_text.specs.Waiting.{each_behind_bar}
 
 pub filled : (n : ℕ) → false ≡ (n == 0) → 0 < n
@@ -30,11 +30,11 @@ label_more old out mid new labels i w v h at same e f g =
     ∙ ap (λ l. old ++ each_behind_bar l) (ap (λ x. take i labels ++ x ∷ []) at ∙ sym (take_more labels i w h))
 
 pub text_more : (old out mid new : List ℕ) (texts : List (List ℕ)) (i : ℕ) (w v : List ℕ) → i < length texts → w ≡ get_or texts i w → v ≡ w →
-    out ≡ old ++ each_behind_bar (map quoted (take i texts)) → mid ≡ out ++ 124 ∷ [] → new ≡ mid ++ quoted v → new ≡ old ++ each_behind_bar (map quoted (take (i + 1) texts))
+    out ≡ old ++ each_behind_bar (map quoted_text (take i texts)) → mid ≡ out ++ 124 ∷ [] → new ≡ mid ++ quoted_text v → new ≡ old ++ each_behind_bar (map quoted_text (take (i + 1) texts))
 text_more old out mid new texts i w v h at same e f g =
-    more_written old out mid new (quoted w) (map quoted (take i texts)) e f (g ∙ ap (λ l. mid ++ quoted l) same)
-    ∙ ap (λ l. old ++ each_behind_bar l) (sym (map_push quoted (take i texts) w))
-    ∙ ap (λ l. old ++ each_behind_bar (map quoted l)) (ap (λ x. take i texts ++ x ∷ []) at ∙ sym (take_more texts i w h))
+    more_written old out mid new (quoted_text w) (map quoted_text (take i texts)) e f (g ∙ ap (λ l. mid ++ quoted_text l) same)
+    ∙ ap (λ l. old ++ each_behind_bar l) (sym (map_push quoted_text (take i texts) w))
+    ∙ ap (λ l. old ++ each_behind_bar (map quoted_text l)) (ap (λ x. take i texts ++ x ∷ []) at ∙ sym (take_more texts i w h))
 
 -- two or more, as they are appended
 many_written : (old a b c d w : List ℕ) (vs : List (List ℕ)) → 0 < length vs → a ≡ old ++ 40 ∷ [] → b ≡ a ++ w → c ≡ b ++ each_behind_bar vs → d ≡ c ++ 41 ∷ [] →
@@ -52,8 +52,8 @@ pub labels_written : (old a b c d w v : List ℕ) (all vs : List (List ℕ)) →
 labels_written old a b c d w v all vs e h same p q r s =
     many_written old a b c d w vs h p q r s ∙ ap (λ l. old ++ labels_text (l ∷ vs)) same ∙ ap (λ l. old ++ labels_text l) (sym e)
 
-pub texts_written : (old a b c d w v : List ℕ) (all vs : List (List ℕ)) → all ≡ v ∷ vs → 0 < length vs → w ≡ v → a ≡ old ++ 40 ∷ [] → b ≡ a ++ quoted w → c ≡ b ++ each_behind_bar (map quoted vs) → d ≡ c ++ 41 ∷ [] →
-    d ≡ old ++ labels_text (map quoted all)
+pub texts_written : (old a b c d w v : List ℕ) (all vs : List (List ℕ)) → all ≡ v ∷ vs → 0 < length vs → w ≡ v → a ≡ old ++ 40 ∷ [] → b ≡ a ++ quoted_text w → c ≡ b ++ each_behind_bar (map quoted_text vs) → d ≡ c ++ 41 ∷ [] →
+    d ≡ old ++ labels_text (map quoted_text all)
 texts_written old a b c d w v all vs e h same p q r s =
-    many_written old a b c d (quoted w) (map quoted vs) (let k = length-map vs quoted in omega (arith, k, h)) p q r s
-    ∙ ap (λ l. old ++ labels_text (quoted l ∷ map quoted vs)) same ∙ ap (λ l. old ++ labels_text (map quoted l)) (sym e)
+    many_written old a b c d (quoted_text w) (map quoted_text vs) (let k = length-map vs quoted_text in omega (arith, k, h)) p q r s
+    ∙ ap (λ l. old ++ labels_text (quoted_text l ∷ map quoted_text vs)) same ∙ ap (λ l. old ++ labels_text (map quoted_text l)) (sym e)

@@ -1,7 +1,7 @@
 //! Classes of labels and of texts, written.
 
 ghost use Rattle.std.specs.Prelude.{◌≡◌, ◌++◌, OnOk, map};
-ghost use Rattle.xd_syntax.specs.TypeText.{class_text, labels_text, words_text, quoted};
+ghost use Rattle.xd_syntax.specs.TypeText.{class_text, labels_text, words_text, quoted_text};
 ghost use Rattle.xd_type_text.specs.Waiting.{each_behind_bar};
 
 use xd_doc::{Class, Label, NoMemory, Text, Words};
@@ -20,7 +20,7 @@ fn write_more_labels(labels: &[Label], out: &mut Vec<u8>) -> Result<(), NoMemory
 
 /// Texts in quotes, each after a `|`.
 fn write_more_texts(texts: &[Text], out: &mut Vec<u8>) -> Result<(), NoMemory>
-    ensures { OnOk result (out.new.items ≡ out.old.items ++ each_behind_bar (map quoted texts.now)) }
+    ensures { OnOk result (out.new.items ≡ out.old.items ++ each_behind_bar (map quoted_text texts.now)) }
 {
     for text in texts {
         out.push(b'|')?;
@@ -50,7 +50,7 @@ fn write_label_list(labels: &[Label], out: &mut Vec<u8>) -> Result<(), NoMemory>
 
 /// One text stands alone, more stand in parentheses.
 fn write_text_list(texts: &[Text], out: &mut Vec<u8>) -> Result<(), NoMemory>
-    ensures { OnOk result (out.new.items ≡ out.old.items ++ labels_text (map quoted texts.now)) }
+    ensures { OnOk result (out.new.items ≡ out.old.items ++ labels_text (map quoted_text texts.now)) }
 {
     let Some((text, others)) = texts.split_first() else {
         out.extend_from_slice(b"()")?;

@@ -6,10 +6,10 @@ use Rattle.std.proofs.lemmas.List.Folds.{flat_map-map}
 use Rattle.xd_base.specs.declared.Place.{Place}
 use Rattle.xd_syntax.specs.Words.{has_word}
 use Rattle.xd_syntax.specs.Tree.{occurrences}
-use Rattle.xd_syntax.specs.NameFaults.{without}
+use Rattle.xd_syntax.specs.NameFaults.{without, Spot}
 use Rattle.xd_syntax.specs.Placed.{PlacedTree, Empty_at, Text_at, Words_at, Name_at, Elem_at, Seq_at, Alt_at, Star_at, Plus_at, Opt_at, Val_at, place_of, placed_alt, placed_seq, unplaced}
 use Rattle.xd_syntax.specs.PlacedTable.{placed_at, placed_form}
-use Rattle.xd_syntax.specs.Matches.{Occurrence, first_occurrences, occurrences_in}
+use Rattle.xd_syntax.specs.Matches.{first_spots, variable_spots}
 use Rattle.xd_syntax.specs.Table.{Row}
 use Rattle.xd_syntax.specs.Nodes.{IsNode, form_parts, view_form}
 use Rattle.xd_syntax.specs.declared.nodes.FormView.{FormView}
@@ -17,40 +17,40 @@ use Rattle.xd_syntax.specs.declared.nodes.FormView.TheVariants.{Empty, Text, Wor
 use Rattle.xd_meaning.specs.Bindings.{each_once, variables_of}
 use Rattle.xd_laws.proofs.Unfoldings.{same_word_eq}
 
-occurrences_in_seq : (p : Place) (ts : List PlacedTree) → occurrences_in (placed_seq p ts) ≡ flat_map occurrences_in ts
-occurrences_in_seq p [] = refl
-occurrences_in_seq p (t ∷ []) = sym (append-nil (occurrences_in t))
-occurrences_in_seq p (t ∷ (u ∷ us)) = ap (λ xs. occurrences_in t ++ xs) (occurrences_in_seq (place_of u) (u ∷ us))
+variable_spots_seq : (p : Place) (ts : List PlacedTree) → variable_spots (placed_seq p ts) ≡ flat_map variable_spots ts
+variable_spots_seq p [] = refl
+variable_spots_seq p (t ∷ []) = sym (append-nil (variable_spots t))
+variable_spots_seq p (t ∷ (u ∷ us)) = ap (λ xs. variable_spots t ++ xs) (variable_spots_seq (place_of u) (u ∷ us))
 
-occurrences_in_alt : (p : Place) (ts : List PlacedTree) → occurrences_in (placed_alt p ts) ≡ flat_map occurrences_in ts
-occurrences_in_alt p [] = refl
-occurrences_in_alt p (t ∷ []) = sym (append-nil (occurrences_in t))
-occurrences_in_alt p (t ∷ (u ∷ us)) = ap (λ xs. occurrences_in t ++ xs) (occurrences_in_alt (place_of u) (u ∷ us))
+variable_spots_alt : (p : Place) (ts : List PlacedTree) → variable_spots (placed_alt p ts) ≡ flat_map variable_spots ts
+variable_spots_alt p [] = refl
+variable_spots_alt p (t ∷ []) = sym (append-nil (variable_spots t))
+variable_spots_alt p (t ∷ (u ∷ us)) = ap (λ xs. variable_spots t ++ xs) (variable_spots_alt (place_of u) (u ∷ us))
 
 -- what is no variable has the occurrences of its parts
-occurrences_of_parts : {I : Type 0} (at : I → ℕ) (t : ℕ → PlacedTree) (p : Place) (f : FormView I) → ((x : Bor (List ℕ)) (q : Place) (i : I) → f ≡ Val x q i → ⊥) →
-    occurrences_in (placed_form t p (view_form at f)) ≡ flat_map (λ i. occurrences_in (t i)) (form_parts (view_form at f))
-occurrences_of_parts at t p Empty other = refl
-occurrences_of_parts at t p Text other = refl
-occurrences_of_parts at t p (Words ws) other = refl
-occurrences_of_parts at t p (Name w) other = refl
-occurrences_of_parts at t p (Elem c i) other = sym (append-nil (occurrences_in (t (at i))))
-occurrences_of_parts at t p (Seq is) other = occurrences_in_seq p (map t (map at is.now)) ∙ flat_map-map occurrences_in t (map at is.now)
-occurrences_of_parts at t p (Alt is) other = occurrences_in_alt p (map t (map at is.now)) ∙ flat_map-map occurrences_in t (map at is.now)
-occurrences_of_parts at t p (Star i) other = sym (append-nil (occurrences_in (t (at i))))
-occurrences_of_parts at t p (Plus i) other = sym (append-nil (occurrences_in (t (at i))))
-occurrences_of_parts at t p (Opt i) other = sym (append-nil (occurrences_in (t (at i))))
-occurrences_of_parts at t p (Val x q i) other = absurd (other x q i refl)
+spots_of_parts : {I : Type 0} (at : I → ℕ) (t : ℕ → PlacedTree) (p : Place) (f : FormView I) → ((x : Bor (List ℕ)) (q : Place) (i : I) → f ≡ Val x q i → ⊥) →
+    variable_spots (placed_form t p (view_form at f)) ≡ flat_map (λ i. variable_spots (t i)) (form_parts (view_form at f))
+spots_of_parts at t p Empty other = refl
+spots_of_parts at t p Text other = refl
+spots_of_parts at t p (Words ws) other = refl
+spots_of_parts at t p (Name w) other = refl
+spots_of_parts at t p (Elem c i) other = sym (append-nil (variable_spots (t (at i))))
+spots_of_parts at t p (Seq is) other = variable_spots_seq p (map t (map at is.now)) ∙ flat_map-map variable_spots t (map at is.now)
+spots_of_parts at t p (Alt is) other = variable_spots_alt p (map t (map at is.now)) ∙ flat_map-map variable_spots t (map at is.now)
+spots_of_parts at t p (Star i) other = sym (append-nil (variable_spots (t (at i))))
+spots_of_parts at t p (Plus i) other = sym (append-nil (variable_spots (t (at i))))
+spots_of_parts at t p (Opt i) other = sym (append-nil (variable_spots (t (at i))))
+spots_of_parts at t p (Val x q i) other = absurd (other x q i refl)
 
 -- the end of a walk over the parts of a node, of which none is left
-pub binders_done : {I : Type 0} (at : I → ℕ) (b : Bool) (rows : List Row) (i : ℕ) (p : Place) (f : FormView I) (xs left : List I) (made old : List Occurrence) → IsNode b rows i p (view_form at f) →
+pub binders_done : {I : Type 0} (at : I → ℕ) (b : Bool) (rows : List Row) (i : ℕ) (p : Place) (f : FormView I) (xs left : List I) (made old : List Spot) → IsNode b rows i p (view_form at f) →
     map at xs ≡ form_parts (view_form at f) → ((x : Bor (List ℕ)) (q : Place) (j : I) → f ≡ Val x q j → ⊥) → left ≡ [] →
-    made ++ flat_map (λ j. occurrences_in (placed_at rows j)) (map at left) ≡ old ++ flat_map (λ j. occurrences_in (placed_at rows j)) (map at xs) → made ≡ old ++ occurrences_in (placed_at rows i)
+    made ++ flat_map (λ j. variable_spots (placed_at rows j)) (map at left) ≡ old ++ flat_map (λ j. variable_spots (placed_at rows j)) (map at xs) → made ≡ old ++ variable_spots (placed_at rows i)
 binders_done at b rows i p f xs left made old node e other none loop =
     sym (append-nil made)
-    ∙ ap (λ ys. made ++ flat_map (λ j. occurrences_in (placed_at rows j)) (map at ys)) (sym none)
+    ∙ ap (λ ys. made ++ flat_map (λ j. variable_spots (placed_at rows j)) (map at ys)) (sym none)
     ∙ loop
-    ∙ ap (λ vs. old ++ vs) (ap (flat_map (λ j. occurrences_in (placed_at rows j))) e ∙ sym (ap occurrences_in node.placed ∙ occurrences_of_parts at (placed_at rows) p f other))
+    ∙ ap (λ vs. old ++ vs) (ap (flat_map (λ j. variable_spots (placed_at rows j))) e ∙ sym (ap variable_spots node.placed ∙ spots_of_parts at (placed_at rows) p f other))
 
 -- ---- the first ones, each of a word that wasn't seen
 
@@ -62,33 +62,33 @@ filter_both p q r (x ∷ xs) h = go (q x) (filter_both p q r xs h) ∙ ap (λ b.
     go true i = ap (λ z. cond (p x) (x ∷ z) z) i
     go false i = i
 
-abbrev lacks : List (List ℕ) → Occurrence → Bool
-lacks ks o = not (has_word ks o.variable)
+abbrev lacks : List (List ℕ) → Spot → Bool
+lacks ks o = not (has_word ks o.word)
 
 -- the first occurrences, but for those of words that were seen
-abbrev pub still_first : List (List ℕ) → List Occurrence → List Occurrence
-still_first ks os = filter (lacks ks) (first_occurrences os)
+abbrev pub still_first : List (List ℕ) → List Spot → List Spot
+still_first ks os = filter (lacks ks) (first_spots os)
 
-filter_all : (os : List Occurrence) → filter (lacks []) os ≡ os
+filter_all : (os : List Spot) → filter (lacks []) os ≡ os
 filter_all [] = refl
 filter_all (o ∷ os) = ap (λ z. o ∷ z) (filter_all os)
 
-pub first_begin : (os : List Occurrence) → still_first [] os ≡ first_occurrences os
-first_begin os = filter_all (first_occurrences os)
+pub first_begin : (os : List Spot) → still_first [] os ≡ first_spots os
+first_begin os = filter_all (first_spots os)
 
-abbrev differs : Occurrence → Occurrence → Bool
-differs o p = not (bytes_eq o.variable p.variable)
+abbrev differs : Spot → Spot → Bool
+differs o p = not (bytes_eq o.word p.word)
 
-seen_again : (ks : List (List ℕ)) (o p : Occurrence) → has_word ks o.variable ≡ true → lacks ks p ≡ (differs o p && lacks ks p)
-seen_again ks o p h = go (bytes_eq o.variable p.variable) refl
+seen_again : (ks : List (List ℕ)) (o p : Spot) → has_word ks o.word ≡ true → lacks ks p ≡ (differs o p && lacks ks p)
+seen_again ks o p h = go (bytes_eq o.word p.word) refl
   where
-    go : (b : Bool) → bytes_eq o.variable p.variable ≡ b → lacks ks p ≡ (not b && lacks ks p)
-    go true e = ap (λ w. not (has_word ks w)) (sym (same_word_eq o.variable p.variable e)) ∙ ap not h
+    go : (b : Bool) → bytes_eq o.word p.word ≡ b → lacks ks p ≡ (not b && lacks ks p)
+    go true e = ap (λ w. not (has_word ks w)) (sym (same_word_eq o.word p.word e)) ∙ ap not h
     go false e = refl
 
-pub first_seen : (ks : List (List ℕ)) (o : Occurrence) (os : List Occurrence) → has_word ks o.variable ≡ true → still_first ks (o ∷ os) ≡ still_first ks os
+pub first_seen : (ks : List (List ℕ)) (o : Spot) (os : List Spot) → has_word ks o.word ≡ true → still_first ks (o ∷ os) ≡ still_first ks os
 first_seen ks o os h =
-    let fs = first_occurrences os in
+    let fs = first_spots os in
     ap (λ b. cond (not b) (o ∷ filter (lacks ks) (filter (differs o) fs)) (filter (lacks ks) (filter (differs o) fs))) h
     ∙ filter_both (lacks ks) (differs o) (lacks ks) fs (λ p. seen_again ks o p h)
 
@@ -108,37 +108,37 @@ word_end (k ∷ ks) x w = go (bytes_eq k w) (word_end ks x w)
         never true = refl
         never false = refl
 
-pub first_new : (ks : List (List ℕ)) (o : Occurrence) (os : List Occurrence) → has_word ks o.variable ≡ false → still_first ks (o ∷ os) ≡ o ∷ still_first (ks ++ o.variable ∷ []) os
+pub first_new : (ks : List (List ℕ)) (o : Spot) (os : List Spot) → has_word ks o.word ≡ false → still_first ks (o ∷ os) ≡ o ∷ still_first (ks ++ o.word ∷ []) os
 first_new ks o os h =
-    let fs = first_occurrences os in
+    let fs = first_spots os in
     ap (λ b. cond (not b) (o ∷ filter (lacks ks) (filter (differs o) fs)) (filter (lacks ks) (filter (differs o) fs))) h
-    ∙ ap (λ z. o ∷ z) (filter_both (lacks ks) (differs o) (lacks (ks ++ o.variable ∷ [])) fs (λ p. word_end ks o.variable p.variable))
+    ∙ ap (λ z. o ∷ z) (filter_both (lacks ks) (differs o) (lacks (ks ++ o.word ∷ [])) fs (λ p. word_end ks o.word p.word))
 
 -- ---- the words of the first ones are the variables of the pattern
 
-abbrev pub words_of : List Occurrence → List (List ℕ)
-words_of os = map (λ (o : Occurrence). o.variable) os
+abbrev pub words_of : List Spot → List (List ℕ)
+words_of os = map (λ (o : Spot). o.word) os
 
-words_left : (x : List ℕ) (os : List Occurrence) → words_of (filter (λ (p : Occurrence). not (bytes_eq x p.variable)) os) ≡ without (x ∷ []) (words_of os)
+words_left : (x : List ℕ) (os : List Spot) → words_of (filter (λ (p : Spot). not (bytes_eq x p.word)) os) ≡ without (x ∷ []) (words_of os)
 words_left x [] = refl
-words_left x (o ∷ os) = go (bytes_eq x o.variable) (words_left x os)
+words_left x (o ∷ os) = go (bytes_eq x o.word) (words_left x os)
   where
-    rest : List Occurrence
-    rest = filter (λ (p : Occurrence). not (bytes_eq x p.variable)) os
+    rest : List Spot
+    rest = filter (λ (p : Spot). not (bytes_eq x p.word)) os
 
-    go : (b : Bool) → words_of rest ≡ without (x ∷ []) (words_of os) → words_of (cond (not b) (o ∷ rest) rest) ≡ cond (not (b || false)) (o.variable ∷ without (x ∷ []) (words_of os)) (without (x ∷ []) (words_of os))
+    go : (b : Bool) → words_of rest ≡ without (x ∷ []) (words_of os) → words_of (cond (not b) (o ∷ rest) rest) ≡ cond (not (b || false)) (o.word ∷ without (x ∷ []) (words_of os)) (without (x ∷ []) (words_of os))
     go true r = r
-    go false r = ap (λ ws. o.variable ∷ ws) r
+    go false r = ap (λ ws. o.word ∷ ws) r
 
-words_of_first : (os : List Occurrence) → words_of (first_occurrences os) ≡ each_once (words_of os)
+words_of_first : (os : List Spot) → words_of (first_spots os) ≡ each_once (words_of os)
 words_of_first [] = refl
-words_of_first (o ∷ os) = ap (λ ws. o.variable ∷ ws) (words_left o.variable (first_occurrences os) ∙ ap (without (o.variable ∷ [])) (words_of_first os))
+words_of_first (o ∷ os) = ap (λ ws. o.word ∷ ws) (words_left o.word (first_spots os) ∙ ap (without (o.word ∷ [])) (words_of_first os))
 
-both_words : (T U : PlacedTree) → words_of (occurrences_in T) ≡ occurrences (unplaced T) → words_of (occurrences_in U) ≡ occurrences (unplaced U) →
-    words_of (occurrences_in T ++ occurrences_in U) ≡ occurrences (unplaced T) ++ occurrences (unplaced U)
-both_words T U h k = map-append (λ (o : Occurrence). o.variable) (occurrences_in T) (occurrences_in U) ∙ ap (λ ws. ws ++ words_of (occurrences_in U)) h ∙ ap (λ ws. occurrences (unplaced T) ++ ws) k
+both_words : (T U : PlacedTree) → words_of (variable_spots T) ≡ occurrences (unplaced T) → words_of (variable_spots U) ≡ occurrences (unplaced U) →
+    words_of (variable_spots T ++ variable_spots U) ≡ occurrences (unplaced T) ++ occurrences (unplaced U)
+both_words T U h k = map-append (λ (o : Spot). o.word) (variable_spots T) (variable_spots U) ∙ ap (λ ws. ws ++ words_of (variable_spots U)) h ∙ ap (λ ws. occurrences (unplaced T) ++ ws) k
 
-words_in : (T : PlacedTree) → words_of (occurrences_in T) ≡ occurrences (unplaced T)
+words_in : (T : PlacedTree) → words_of (variable_spots T) ≡ occurrences (unplaced T)
 words_in (Empty_at p) = refl
 words_in (Text_at p) = refl
 words_in (Words_at p ws) = refl
@@ -151,17 +151,17 @@ words_in (Plus_at p T) = words_in T
 words_in (Opt_at p T) = words_in T
 words_in (Val_at p x q T) = ap (λ ws. x ∷ ws) (words_in T)
 
-pub first_words : (T : PlacedTree) → words_of (first_occurrences (occurrences_in T)) ≡ variables_of (unplaced T)
-first_words T = words_of_first (occurrences_in T) ∙ ap each_once (words_in T)
+pub first_words : (T : PlacedTree) → words_of (first_spots (variable_spots T)) ≡ variables_of (unplaced T)
+first_words T = words_of_first (variable_spots T) ∙ ap each_once (words_in T)
 
 -- one more occurrence is looked at
-module _ (place : Occurrence → Place) where
-  pub first_more : (ks us : List (List ℕ)) (ps qs all : List Place) (o : Occurrence) (os : List Occurrence) (new : Bool) → new ≡ not (has_word ks o.variable) → us ≡ cond (has_word ks o.variable) ks (ks ++ o.variable ∷ []) →
+module _ (place : Spot → Place) where
+  pub first_more : (ks us : List (List ℕ)) (ps qs all : List Place) (o : Spot) (os : List Spot) (new : Bool) → new ≡ not (has_word ks o.word) → us ≡ cond (has_word ks o.word) ks (ks ++ o.word ∷ []) →
       qs ≡ cond new (ps ++ place o ∷ []) ps → ps ++ map place (still_first ks (o ∷ os)) ≡ all → qs ++ map place (still_first us os) ≡ all
   first_more ks us ps qs all o os new e f g h =
-      ap (λ ws. qs ++ map place (still_first ws os)) f ∙ ap (λ ws. ws ++ map place (still_first (cond (has_word ks o.variable) ks (ks ++ o.variable ∷ [])) os)) (g ∙ ap (λ b. cond b (ps ++ place o ∷ []) ps) e)
-      ∙ go (has_word ks o.variable) refl ∙ h
+      ap (λ ws. qs ++ map place (still_first ws os)) f ∙ ap (λ ws. ws ++ map place (still_first (cond (has_word ks o.word) ks (ks ++ o.word ∷ [])) os)) (g ∙ ap (λ b. cond b (ps ++ place o ∷ []) ps) e)
+      ∙ go (has_word ks o.word) refl ∙ h
     where
-      go : (b : Bool) → has_word ks o.variable ≡ b → cond (not b) (ps ++ place o ∷ []) ps ++ map place (still_first (cond b ks (ks ++ o.variable ∷ [])) os) ≡ ps ++ map place (still_first ks (o ∷ os))
+      go : (b : Bool) → has_word ks o.word ≡ b → cond (not b) (ps ++ place o ∷ []) ps ++ map place (still_first (cond b ks (ks ++ o.word ∷ [])) os) ≡ ps ++ map place (still_first ks (o ∷ os))
       go true k = ap (λ fs. ps ++ map place fs) (sym (first_seen ks o os k))
-      go false k = append_assoc ps (place o ∷ []) (map place (still_first (ks ++ o.variable ∷ []) os)) ∙ ap (λ fs. ps ++ map place fs) (sym (first_new ks o os k))
+      go false k = append_assoc ps (place o ∷ []) (map place (still_first (ks ++ o.word ∷ []) os)) ∙ ap (λ fs. ps ++ map place fs) (sym (first_new ks o os k))

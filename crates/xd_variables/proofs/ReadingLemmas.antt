@@ -8,7 +8,8 @@ use Rattle.xd_doc.specs.Document.{Document}
 use Rattle.xd_auto.specs.Automaton.{Automaton, accepts}
 use Rattle.xd_syntax.specs.Tree.{Definitions, Tree}
 use Rattle.xd_syntax.specs.Expression.{Expression}
-use Rattle.xd_syntax.specs.Matches.{Occurrence, first_occurrences, occurrences_in}
+use Rattle.xd_syntax.specs.Matches.{first_spots, variable_spots}
+use Rattle.xd_syntax.specs.NameFaults.{Spot}
 use Rattle.xd_syntax.specs.May.{IsLive, May, Scope}
 use Rattle.xd_syntax.specs.Patterns.{pattern_tree}
 use Rattle.xd_syntax.specs.Placed.{PlacedTree, unplaced}
@@ -26,7 +27,7 @@ use Rattle.xd_check_steps.specs.States.{Grows}
 use Rattle.xd_check.proofs.ClauseLemmas.{bind_from, bind_to, live_from, live_to}
 use Rattle.xd_check.proofs.IsReadyLemmas.{serves_kept}
 use Rattle.xd_prefer.proofs.PrefersLemmas.{nothing_preferred, prefers_same}
-use Rattle.xd_variables.specs.Binders.{place_of_occurrence}
+use Rattle.xd_variables.specs.Binders.{place_of_spot}
 use Rattle.xd_variables.specs.Bound.{IsBound, reading_of}
 use Rattle.xd_variables.specs.Read.{AddsVariables, IsClauseRead, IsReader, TellsLive, placed_givens}
 use Rattle.xd_variables.specs.Seen.{Reading, SeenVariable, variable_at}
@@ -61,7 +62,7 @@ placed E rows id m n made = subst (λ (T : Tree). IsNumbered E T m n) (sym (unpl
 
 module _ (B : Reading) (P : ProgramTree) (S : Scope) (e : Expression) (earlier : List PlacedTree) (Q : PlacedTree) (C : Document → Type 0) (a : Automaton)
     (same : (x : List ℕ) (d : Document) → B (names_of P) C [] Q x d ↔ B (names_of P) (May P S e) earlier Q x d) where
-  one_bound : (o : Occurrence) (g : Given) → g.variable ≡ o.variable → IsGivenOf (B (names_of P) C [] Q) a g →
+  one_bound : (o : Spot) (g : Given) → g.variable ≡ o.word → IsGivenOf (B (names_of P) C [] Q) a g →
       IsBound B P a (variable_at S e earlier Q o) (record { place = o.place; word = g.variable; state = g.state })
   one_bound o g w h = record {
     place = refl;
@@ -71,14 +72,14 @@ module _ (B : Reading) (P : ProgramTree) (S : Scope) (e : Expression) (earlier :
         (λ m. (same g.variable d).0 ((h.exact d p).0 m), λ m. (h.exact d p).1 ((same g.variable d).1 m));
   }
 
-  pub clause_bound : (os : List Occurrence) (gs : List Given) → map (λ (g : Given). g.variable) gs ≡ words_of os → All (IsGivenOf (B (names_of P) C [] Q) a) gs →
-      AllZip (IsBound B P a) (map (variable_at S e earlier Q) os) (placed_givens (map place_of_occurrence os) gs)
+  pub clause_bound : (os : List Spot) (gs : List Given) → map (λ (g : Given). g.variable) gs ≡ words_of os → All (IsGivenOf (B (names_of P) C [] Q) a) gs →
+      AllZip (IsBound B P a) (map (variable_at S e earlier Q) os) (placed_givens (map place_of_spot os) gs)
   clause_bound [] [] w h = tt
   clause_bound [] (g ∷ gs) w h = absurd (let e : g.variable ∷ map (λ (k : Given). k.variable) gs ≡ [] = w in cc)
-  clause_bound (o ∷ os) [] w h = absurd (let e : [] ≡ o.variable ∷ words_of os = w in cc)
+  clause_bound (o ∷ os) [] w h = absurd (let e : [] ≡ o.word ∷ words_of os = w in cc)
   clause_bound (o ∷ os) (g ∷ gs) w h =
-      let both : g.variable ∷ map (λ (k : Given). k.variable) gs ≡ o.variable ∷ words_of os = w in
-      let first : g.variable ≡ o.variable = cc in
+      let both : g.variable ∷ map (λ (k : Given). k.variable) gs ≡ o.word ∷ words_of os = w in
+      let first : g.variable ≡ o.word = cc in
       let rest : map (λ (k : Given). k.variable) gs ≡ words_of os = cc in
       (one_bound o g first (All-head (IsGivenOf (B (names_of P) C [] Q) a) g gs h), clause_bound os gs rest (All-tail (IsGivenOf (B (names_of P) C [] Q) a) g gs h))
 
@@ -122,12 +123,12 @@ module _ (B : Reading) (P : ProgramTree) where
 -- ---- one clause
 
 -- the places of the first occurrences are as many as the variables
-pub as_many : (place : Occurrence → Place) (os : List Occurrence) (gs : List Given) → map (λ (g : Given). g.variable) gs ≡ words_of os → length (map place os) ≡ length gs
+pub as_many : (place : Spot → Place) (os : List Spot) (gs : List Given) → map (λ (g : Given). g.variable) gs ≡ words_of os → length (map place os) ≡ length gs
 as_many place [] [] w = refl
 as_many place [] (g ∷ gs) w = absurd (let e : g.variable ∷ map (λ (k : Given). k.variable) gs ≡ [] = w in cc)
-as_many place (o ∷ os) [] w = absurd (let e : [] ≡ o.variable ∷ words_of os = w in cc)
+as_many place (o ∷ os) [] w = absurd (let e : [] ≡ o.word ∷ words_of os = w in cc)
 as_many place (o ∷ os) (g ∷ gs) w =
-    let both : g.variable ∷ map (λ (k : Given). k.variable) gs ≡ o.variable ∷ words_of os = w in
+    let both : g.variable ∷ map (λ (k : Given). k.variable) gs ≡ o.word ∷ words_of os = w in
     let rest : map (λ (k : Given). k.variable) gs ≡ words_of os = cc in
     let n = as_many place os gs rest in omega arith
 
@@ -136,14 +137,14 @@ tells_live P S e earlier C Q comes true h = live_from P S e earlier C Q comes (h
 tells_live P S e earlier C Q comes false h = λ l. absurd (let t : false ≡ true = h.1 (live_to P S e earlier C Q comes l) in cc)
 
 pub clause_read : (w : Ways) (P : ProgramTree) (S : Scope) (e : Expression) (earlier : List PlacedTree) (C : Document → Type 0) (Q : PlacedTree) → ComesTo P S e earlier Q C → (a : Automaton) (qs : List Place) (gs : List Given) (old new : List BoundVariable) (live : Bool) →
-    qs ≡ map place_of_occurrence (first_occurrences (occurrences_in Q)) → AreGivensOf (reading_of w (names_of P) C [] Q) Q a gs → new ≡ old ++ placed_givens qs gs → ((live ≡ true) ↔ IsLive (names_of P) C [] Q) →
+    qs ≡ map place_of_spot (first_spots (variable_spots Q)) → AreGivensOf (reading_of w (names_of P) C [] Q) Q a gs → new ≡ old ++ placed_givens qs gs → ((live ≡ true) ↔ IsLive (names_of P) C [] Q) →
     IsClauseRead (reading_of w) P S e earlier Q a old new live
 clause_read w P S e earlier C Q comes a qs gs old new live places given grown tells =
-    let os : List Occurrence = first_occurrences (occurrences_in Q) in
+    let os : List Spot = first_spots (variable_spots Q) in
     record {
       tells = tells_live P S e earlier C Q comes live tells;
       adds = record {
-        more = placed_givens (map place_of_occurrence os) gs;
+        more = placed_givens (map place_of_spot os) gs;
         grown = grown ∙ ap (λ ps. old ++ placed_givens ps gs) places;
         each = clause_bound (reading_of w) P S e earlier Q C a (λ x d. gives_same w P S e earlier C Q comes x d) os gs (given.variables ∙ sym (first_words Q)) given.each;
       };

@@ -1,9 +1,9 @@
 -- A program has one list of matches, and one list of variables.
 use Rattle.std.proofs.Common.{◌≡◌, inl, inr, List, [], ◌∷◌, ◌++◌, flat_map, ap, sym, ◌∙◌}
 use Rattle.xd_syntax.specs.Expression.{Expression, Nothing, Quoted, Variable, Tagged, Joined, Called, Matched, Arguments, no_argument, argument, Clauses, no_clause, clause}
-use Rattle.xd_syntax.specs.Matches.{AreMatches, InTurn, MatchesOf, MatchesOfArguments, MatchesOfClauses, MatchesOfFunction, MatchesOfFunctions, SeenMatch, match_precedes}
+use Rattle.xd_syntax.specs.Matches.{AreMatches, MatchesOf, MatchesOfArguments, MatchesOfClauses, MatchesOfFunction, MatchesOfFunctions, SeenMatch, match_precedes}
 use Rattle.xd_syntax.specs.May.{Scope, clause_entry, parameters_scope}
-use Rattle.xd_syntax.specs.Order.{ordered}
+use Rattle.xd_syntax.specs.Order.{ordered, InTurn}
 use Rattle.xd_syntax.specs.Placed.{PlacedTree}
 use Rattle.xd_syntax.specs.Program.{FunctionDefinition, ProgramTree}
 use Rattle.xd_variables.specs.Laws.{SeenVariablesAreOne}

@@ -9,7 +9,8 @@ use Rattle.xd_syntax.specs.Expression.{Expression, Clauses, no_clause, clause}
 use Rattle.xd_syntax.specs.Program.{ProgramTree, names_of}
 use Rattle.xd_syntax.specs.Order.{is_earlier, ordered}
 use Rattle.xd_syntax.specs.May.{May, Scope}
-use Rattle.xd_syntax.specs.Matches.{AreMatches, Occurrence, SeenMatch, first_occurrences, occurrences_in}
+use Rattle.xd_syntax.specs.Matches.{AreMatches, SeenMatch, first_spots, variable_spots}
+use Rattle.xd_syntax.specs.NameFaults.{Spot}
 
 -- A variable of a clause: the place of its word where it stands first in the clause's pattern, what
 -- is in scope where the match stands, the match's scrutinee, the patterns of the clauses before,
@@ -22,21 +23,26 @@ pub record SeenVariable : Type 0 where
   pub earlier : List PlacedTree
   pub pattern : PlacedTree
 
-abbrev pub variable_at : Scope → Expression → List PlacedTree → PlacedTree → Occurrence → SeenVariable
-variable_at S e earlier Q o = record { place = o.place; variable = o.variable; scope = S; scrutinee = e; earlier = earlier; pattern = Q }
+-- that of this word at this place
+abbrev pub variable_at : Scope → Expression → List PlacedTree → PlacedTree → Spot → SeenVariable
+variable_at S e earlier Q s =
+    record { place = s.place; variable = s.word; scope = S; scrutinee = e; earlier = earlier; pattern = Q }
 
 -- those of a clause with this pattern, each once
 abbrev pub variables_of_clause : Scope → Expression → List PlacedTree → PlacedTree → List SeenVariable
-variables_of_clause S e earlier Q = map (variable_at S e earlier Q) (first_occurrences (occurrences_in Q))
+variables_of_clause S e earlier Q = map (variable_at S e earlier Q) (first_spots (variable_spots Q))
 
 -- those of clauses after these patterns, whether or not the clauses are live
 abbrev pub variables_of_clauses : Scope → Expression → List PlacedTree → Clauses → List SeenVariable
 variables_of_clauses S e earlier no_clause = []
-variables_of_clauses S e earlier (clause Q f cs) = variables_of_clause S e earlier Q ++ variables_of_clauses S e (Q ∷ earlier) cs
+variables_of_clauses S e earlier (clause Q f cs) =
+    variables_of_clause S e earlier Q ++ variables_of_clauses S e (Q ∷ earlier) cs
 
+-- those of a match's clauses
 abbrev pub variables_of_match : SeenMatch → List SeenVariable
 variables_of_match m = variables_of_clauses m.scope m.scrutinee [] m.clauses
 
+-- the earlier place comes first
 abbrev pub variable_precedes : SeenVariable → SeenVariable → Bool
 variable_precedes v w = is_earlier v.place w.place
 

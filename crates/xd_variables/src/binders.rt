@@ -1,10 +1,10 @@
 //! Where the variables of a pattern stand first.
 
 ghost use Rattle.std.specs.Prelude.{◌≡◌, ◌++◌, map, IfOk, OnOk};
-ghost use Rattle.xd_syntax.specs.Matches.{first_occurrences, occurrences_in};
+ghost use Rattle.xd_syntax.specs.Matches.{first_spots, variable_spots};
 ghost use Rattle.xd_syntax.specs.Patterns.{IsPattern};
 ghost use Rattle.xd_syntax.specs.PlacedTable.{placed_at};
-ghost use Rattle.xd_variables.specs.Binders.{occurrences_of, place_of_occurrence};
+ghost use Rattle.xd_variables.specs.Binders.{spots_of, place_of_spot};
 
 use indexmap::IndexSet;
 use std::alloc::Global;
@@ -22,7 +22,7 @@ pub(crate) struct Binder {
 /// Appends the occurrences of variables in the pattern, in order.
 fn push_binders(patterns: &Patterns, id: PatternId, found: &mut Vec<Binder>) -> Result<(), NoMemory>
     requires { IsPattern patterns.now id }
-    ensures { OnOk result (occurrences_of found.new.items ≡ occurrences_of found.old.items ++ occurrences_in (placed_at patterns.now id.at)) }
+    ensures { OnOk result (spots_of found.new.items ≡ spots_of found.old.items ++ variable_spots (placed_at patterns.now id.at)) }
 {
     let node = patterns.view(id);
     match node.form {
@@ -47,7 +47,7 @@ pub(crate) fn first_places(
     pattern: PatternId,
 ) -> Result<Vec<Place>, NoMemory>
     requires { IsPattern patterns.now pattern }
-    ensures { IfOk result (λ places. places.items ≡ map place_of_occurrence (first_occurrences (occurrences_in (placed_at patterns.now pattern.at)))) }
+    ensures { IfOk result (λ places. places.items ≡ map place_of_spot (first_spots (variable_spots (placed_at patterns.now pattern.at)))) }
 {
     let mut binders = Vec::new(alloc);
     push_binders(patterns, pattern, &mut binders)?;
@@ -56,7 +56,7 @@ pub(crate) fn first_places(
 
 /// The same of these occurrences.
 fn places_of_first(alloc: Global, binders: &[Binder]) -> Result<Vec<Place>, NoMemory>
-    ensures { IfOk result (λ places. places.items ≡ map place_of_occurrence (first_occurrences (occurrences_of binders.now))) }
+    ensures { IfOk result (λ places. places.items ≡ map place_of_spot (first_spots (spots_of binders.now))) }
 {
     let mut seen = IndexSet::new(alloc);
     let mut places = Vec::new(alloc);

@@ -2,7 +2,7 @@
 
 ghost use Rattle.std.specs.Prelude.{◌≡◌, List, IfOk};
 ghost use Rattle.xd_base.specs.Outside.{HasRisen};
-ghost use Rattle.xd_meaning.specs.Breach.{Lined};
+ghost use Rattle.xd_meaning.specs.Violation.{Lined};
 ghost use Rattle.xd_proof.specs.Goals.{AreGoalsAt, GoalsBelong};
 ghost use Rattle.xd_syntax.specs.Kept.{program_tree};
 ghost use Rattle.xd_command_inclusions.specs.Verify.{AnswersVerify, Judges};

@@ -1,7 +1,7 @@
 use Rattle.std.proofs.Common.{[], ◌≤◌, arith, length, sym, subst}
 use Rattle.xd_meaning.specs.Heads.{pieces}
 use Rattle.xd_syntax.specs.Table.{tree_at}
-use Rattle.xd_syntax.specs.TypeText.{depth}
+use Rattle.xd_syntax.specs.TypeDepth.{depth}
 use Rattle.xd_syntax.specs.Shallow.{nesting_limit}
 use Rattle.xd_heads.specs.Compiled.{IsOfState, AreCompiled, AreSorted}
 use Rattle.xd_heads.specs.Sorts.{rows_of}

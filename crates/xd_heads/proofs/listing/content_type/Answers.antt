@@ -2,7 +2,7 @@ use Rattle.std.proofs.Common.{◌≤◌, List, Option, arith, sym, subst}
 use Rattle.xd_syntax.specs.Tree.{Tree, seq_of}
 use Rattle.xd_syntax.specs.SoundTables.{IsTypeAt}
 use Rattle.xd_syntax.specs.Shallow.{nesting_limit}
-use Rattle.xd_syntax.specs.TypeText.{depth}
+use Rattle.xd_syntax.specs.TypeDepth.{depth}
 use Rattle.xd_syntax.specs.declared.types.TypeId.{TypeId}
 use Rattle.xd_continuations.specs.Continuation.{IsContinuation}
 use Rattle.xd_heads.specs.HeadList.{content_at}

@@ -5,9 +5,9 @@ use Rattle.xd_proof.specs.LinesFit.{LinesFit}
 use Rattle.xd_proof_check.specs.Leaves.{GoalBelongs}
 use Rattle.xd_syntax.specs.Kept.{program_tree}
 use Rattle.xd_syntax.specs.Program.{names_of}
-use Rattle.xd_meaning.specs.Breach.{goals_of}
+use Rattle.xd_meaning.specs.Violation.{goals_of}
 use Rattle.xd_proof.specs.Kept.{AreTrees}
-use Rattle.xd_proof_check.specs.GoalWalk.{breach_of}
+use Rattle.xd_proof_check.specs.GoalWalk.{violation_of}
 use Rattle.xd_proof_check.specs.Paths.{IsClear}
 use Rattle.xd_laws.proofs.FirstWrong.{or_next, wrong_goals}
 use Rattle.xd_proof_check.proofs.AcceptLemmas.{claims_of}
@@ -22,9 +22,9 @@ returns-in-Some-clause-found c =
     let at = c.loop-goal.goal-index in
     λ ls z.
     sym (c.loop-goal.invariant.found ls z
-    ∙ goals_step p.types E (goals_of ls) goals ls at c.goal-item.result c.in_ok-breach.field-0 z c.loop-goal-test.true c.goal-item.is
-    (λ l i. c.in_ok-breach.ensures.found (goals_of ls) l (claims_of p.types goals ls z) i)
-    ∙ ap (λ o. or_next (option_map breach_of o) (wrong_goals E (goals_of ls) (drop (at + 1) ls))) c.in-Some.is)
+    ∙ goals_step p.types E (goals_of ls) goals ls at c.goal-item.result c.in_ok-violation.field-0 z c.loop-goal-test.true c.goal-item.is
+    (λ l i. c.in_ok-violation.ensures.found (goals_of ls) l (claims_of p.types goals ls z) i)
+    ∙ ap (λ o. or_next (option_map violation_of o) (wrong_goals E (goals_of ls) (drop (at + 1) ls))) c.in-Some.is)
 
 pub loop-goal-preserved : goal.loop-goal-preserved
 loop-goal-preserved c =
@@ -34,13 +34,13 @@ loop-goal-preserved c =
     let at = c.loop-goal.goal-index in
     let q = c.check_goal.new.path in
     record {
-      serves = c.in_ok-breach.ensures.serves;
-      clear = subst (λ o. IfNone o (IsClear q)) c.in_default.is c.in_ok-breach.ensures.clear;
+      serves = c.in_ok-violation.ensures.serves;
+      clear = subst (λ o. IfNone o (IsClear q)) c.in_default.is c.in_ok-violation.ensures.clear;
       found = λ ls z.
           c.loop-goal.invariant.found ls z
-          ∙ goals_step p.types E (goals_of ls) goals ls at c.goal-item.result c.in_ok-breach.field-0 z c.loop-goal-test.true c.goal-item.is
-          (λ l i. c.in_ok-breach.ensures.found (goals_of ls) l (claims_of p.types goals ls z) i)
-          ∙ ap (λ o. or_next (option_map breach_of o) (wrong_goals E (goals_of ls) (drop (at + 1) ls))) c.in_default.is;
+          ∙ goals_step p.types E (goals_of ls) goals ls at c.goal-item.result c.in_ok-violation.field-0 z c.loop-goal-test.true c.goal-item.is
+          (λ l i. c.in_ok-violation.ensures.found (goals_of ls) l (claims_of p.types goals ls z) i)
+          ∙ ap (λ o. or_next (option_map violation_of o) (wrong_goals E (goals_of ls) (drop (at + 1) ls))) c.in_default.is;
     }
 
 pub returns-clause-found : goal.returns-clause-found

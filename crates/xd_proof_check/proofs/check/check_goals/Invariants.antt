@@ -1,7 +1,7 @@
 use Rattle.std.proofs.Common.{◌≡◌, List, drop}
 use Rattle.xd_syntax.specs.Kept.{program_tree}
 use Rattle.xd_syntax.specs.Program.{names_of}
-use Rattle.xd_meaning.specs.Breach.{Lined, goals_of}
+use Rattle.xd_meaning.specs.Violation.{Lined, goals_of}
 use Rattle.xd_laws.proofs.FirstWrong.{first_wrong, wrong_goals}
 use Rattle.xd_heads.specs.Numbered.{Serves}
 use Rattle.xd_proof.specs.Goals.{AreGoalsAt}

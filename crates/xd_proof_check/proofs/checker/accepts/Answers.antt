@@ -8,7 +8,7 @@ use Rattle.xd_laws.proofs.FirstWrong.{first_wrong}
 use Rattle.xd_proof.specs.Goals.{AreGoalsAt}
 use Rattle.xd_proof.specs.declared.proof.ProofGoal.{ProofGoal}
 use Rattle.xd_proof.specs.Kept.{AreTrees}
-use Rattle.xd_proof_check.specs.GoalWalk.{breach_of}
+use Rattle.xd_proof_check.specs.GoalWalk.{violation_of}
 use Rattle.xd_proof_check.specs.Leaves.{GoalsBelong}
 use Rattle.xd_proof_check.proofs.AcceptLemmas.{accepted_is, belong_of, claims_hold, goals_stay, says_verdict}
 use Rattle.xd_proof_check.proofs.checker.accepts.Goals as goal
@@ -33,8 +33,8 @@ returns-clause-verdict c =
     says_verdict p q (names_of (program_tree p)) F c.verdict.result c.new.ensures.adds.types (ap names_of c.new.ensures.same)
     (λ ls z.
     c.verdict.ensures
-    ∙ subst (λ (x : ProgramTable). AreGoalsAt x.types F ls → option_map breach_of c.in_ok-found.found ≡ first_wrong (names_of (program_tree x)) ls) c.program.ensures.program
-    (subst (λ (gs : List ProofGoal). AreGoalsAt c.program.result.now.types gs ls → option_map breach_of c.in_ok-found.found ≡ first_wrong (names_of (program_tree c.program.result.now)) ls) c.goals.ensures.same
+    ∙ subst (λ (x : ProgramTable). AreGoalsAt x.types F ls → option_map violation_of c.in_ok-found.found ≡ first_wrong (names_of (program_tree x)) ls) c.program.ensures.program
+    (subst (λ (gs : List ProofGoal). AreGoalsAt c.program.result.now.types gs ls → option_map violation_of c.in_ok-found.found ≡ first_wrong (names_of (program_tree c.program.result.now)) ls) c.goals.ensures.same
     (c.in_ok-found.ensures.found ls)) z)
 
 pub returns-clause-accepted : goal.returns-clause-accepted

@@ -1,6 +1,6 @@
 use Rattle.std.proofs.Common.{◌++◌, false, ap, sym, subst, ◌∙◌}
 use Rattle.xd_proof.specs.Goals.{GoalsBelong}
-use Rattle.xd_meaning.specs.Breach.{goals_of}
+use Rattle.xd_meaning.specs.Violation.{goals_of}
 use Rattle.xd_syntax.specs.ProperTables.{IsTable}
 use Rattle.xd_proof_write.specs.SecondText.{second_text_of}
 use Rattle.xd_proof_write.specs.Written.{proof_lines}

@@ -1,5 +1,5 @@
 use Rattle.std.proofs.Common.{◌++◌, List, ℕ, ap, ◌∙◌}
-use Rattle.xd_meaning.specs.Breach.{goals_of}
+use Rattle.xd_meaning.specs.Violation.{goals_of}
 use Rattle.xd_syntax.specs.Kept.{program_tree}
 use Rattle.xd_proof.proofs.GoalLemmas.{goals_belong}
 use Rattle.xd_proof_write.specs.SecondText.{second_text_of}

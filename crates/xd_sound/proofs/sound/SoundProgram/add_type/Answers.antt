@@ -4,7 +4,7 @@ use Rattle.xd_syntax.specs.Types.{form_of}
 use Rattle.xd_syntax.specs.Kept.{ProgramTable}
 use Rattle.xd_syntax.specs.ShallowTables.{IsShallow}
 use Rattle.xd_syntax.specs.Shallow.{nesting_limit}
-use Rattle.xd_syntax.specs.TypeText.{depth}
+use Rattle.xd_syntax.specs.TypeDepth.{depth}
 use Rattle.xd_sound.proofs.KnownLaws.{maybe_kept}
 use Rattle.xd_syntax.proofs.ShallowTables.{shallow_one}
 use Rattle.xd_sound.proofs.sound.SoundProgram.add_type.Goals as goal

@@ -1,7 +1,7 @@
 use Rattle.std.proofs.Common.{◌≡◌, ◌+◌, ◌≤◌, length}
 use Rattle.xd_syntax.specs.Kept.{program_tree, AddsTypes}
 use Rattle.xd_syntax.specs.ShallowTables.{AddsWithin}
-use Rattle.xd_syntax.specs.TypeText.{depth}
+use Rattle.xd_syntax.specs.TypeDepth.{depth}
 use Rattle.xd_syntax.specs.Types.{tree}
 use Rattle.xd_sound.proofs.AdoptLaws.{AreCopied}
 use Rattle.xd_sound.proofs.sound.SoundProgram.copy_in.Given as goal

@@ -1,4 +1,4 @@
--- What is computed is the first breach; and there is a first breach exactly where the rules do not
+-- What is computed is the first violation; and there is a first violation exactly where the rules do not
 -- hold.
 use Rattle.std.proofs.Common.{◌≡◌, ℕ, suc, ◌+◌, arith, Bool, true, false, not, ◌||◌, nat_eq, List, [], ◌∷◌, ◌++◌, map, Option, Some, None, refl, ap, sym, subst, ◌∙◌, ◌⊎◌, inl, inr}
 use Rattle.std.specs.List.{AllByRecursion}
@@ -13,9 +13,9 @@ use Rattle.xd_rules.specs.declared.atom.Atom.{Atom}
 use Rattle.xd_rules.specs.declared.atom.Atom.TheVariants.{Label, OtherLabel, Text, OtherText}
 use Rattle.xd_rules.specs.Rules.{Claim, ChoiceTree, settles_content, settles_rest, split_on, Case, HeadAtom, head_atom, atoms_from, wanted, numbered, matching, Sides, no_sides, on_content, on_rest, HasPart, LeafRule, SplitRule, LabelTree, TextTree, TreeRule, CaseRule}
 use Rattle.xd_meaning.specs.Consistent.{Goal, claim_of, claims, right_heads, EmptyRule, KeepsRules}
-use Rattle.xd_meaning.specs.Breach.{Reason, bad_empty, bad_case, bad_split, bad_leaf, Lined, line_behind, empty_lines, goals_of, TreeBreach, content_leaf, rest_leaf, at_split, in_content, in_rest, TextBreach, text_leaf, text_content, text_split, ChoiceBreach, CasesBreach, too_many, too_few, other_case, in_tree, later_case, GoalBreach, on_empty, in_cases, GoalsBreach, this_goal, later_goal, IsFirstBreach}
+use Rattle.xd_meaning.specs.Violation.{Reason, bad_empty, bad_case, bad_split, bad_leaf, Lined, line_behind, empty_lines, goals_of, TreeViolation, content_leaf, rest_leaf, at_split, in_content, in_rest, TextViolation, text_leaf, text_content, text_split, ChoiceViolation, CasesViolation, too_many, too_few, other_case, in_tree, later_case, GoalViolation, on_empty, in_cases, GoalsViolation, this_goal, later_goal, IsFirstViolation}
 use Rattle.xd_syntax.proofs.Members.{mem_append, mem_map}
-use Rattle.xd_laws.specs.Laws.{BreachesAreFound, RulesAreTested, BreachIsOne}
+use Rattle.xd_laws.specs.Laws.{ViolationsAreFound, RulesAreTested, ViolationIsOne}
 use Rattle.xd_doc.specs.Members.{IsOneOf}
 use Rattle.xd_laws.proofs.Claims.{goal_of, goal_claim}
 use Rattle.xd_laws.proofs.SameTrees.{same_tree-is, tree_same}
@@ -157,42 +157,42 @@ split_says H K L C D F None (Some r) q h k l f g = f h r k
 split_says H K L C D F (Some r) p q h k l f g = h
 
 module _ (gs : List Goal) (a : Atom) (left : Head Tree) (hs : List (Head Tree)) where
-  choice_says : (s : Sides) (t : ChoiceTree) → Says (LabelTree (claims gs) a left hs s t) (TreeBreach (claims gs) a left hs s t) (wrong_choice gs a left hs s t)
+  choice_says : (s : Sides) (t : ChoiceTree) → Says (LabelTree (claims gs) a left hs s t) (TreeViolation (claims gs) a left hs s t) (wrong_choice gs a left hs s t)
   choice_says s (settles_content n) =
-      test_says (LeafRule (λ h. h.content) (claims gs) left hs s.content n) (TreeBreach (claims gs) a left hs s (settles_content n)) (leaf_stands (λ h. h.content) left hs s.content (numbered gs n)) bad_leaf
+      test_says (LeafRule (λ h. h.content) (claims gs) left hs s.content n) (TreeViolation (claims gs) a left hs s (settles_content n)) (leaf_stands (λ h. h.content) left hs s.content (numbered gs n)) bad_leaf
       (leaf_rule_of (λ h. h.content) hs gs left s.content n (numbered gs n) refl) (rule_leaf (λ h. h.content) hs gs left s.content n) (λ f. content_leaf f)
   choice_says s (settles_rest n) =
-      test_says (LeafRule (λ h. h.rest) (claims gs) left hs s.rest n) (TreeBreach (claims gs) a left hs s (settles_rest n)) (leaf_stands (λ h. h.rest) left hs s.rest (numbered gs n)) bad_leaf
+      test_says (LeafRule (λ h. h.rest) (claims gs) left hs s.rest n) (TreeViolation (claims gs) a left hs s (settles_rest n)) (leaf_stands (λ h. h.rest) left hs s.rest (numbered gs n)) bad_leaf
       (leaf_rule_of (λ h. h.rest) hs gs left s.rest n (numbered gs n) refl) (rule_leaf (λ h. h.rest) hs gs left s.rest n) (λ f. rest_leaf f)
   choice_says s (split_on n t u) =
       split_says (SplitRule a hs s n) (LabelTree (claims gs) a left hs (on_content n s) t) (LabelTree (claims gs) a left hs (on_rest n s) u)
-      (TreeBreach (claims gs) a left hs (on_content n s) t) (TreeBreach (claims gs) a left hs (on_rest n s) u) (TreeBreach (claims gs) a left hs s (split_on n t u))
+      (TreeViolation (claims gs) a left hs (on_content n s) t) (TreeViolation (claims gs) a left hs (on_rest n s) u) (TreeViolation (claims gs) a left hs s (split_on n t u))
       (reason_unless (split_allowed a hs s n) bad_split) (wrong_choice gs a left hs (on_content n s) t) (wrong_choice gs a left hs (on_rest n s) u)
-      (test_says (SplitRule a hs s n) (TreeBreach (claims gs) a left hs s (split_on n t u)) (split_allowed a hs s n) bad_split (split_rule a hs s n) (rule_split a hs s n) (λ f. at_split f))
+      (test_says (SplitRule a hs s n) (TreeViolation (claims gs) a left hs s (split_on n t u)) (split_allowed a hs s n) bad_split (split_rule a hs s n) (rule_split a hs s n) (λ f. at_split f))
       (choice_says (on_content n s) t) (choice_says (on_rest n s) u) (λ h r b. in_content h b) (λ h k r b. in_rest h k b)
 
-  text_says : (t : ChoiceTree) → Says (TextTree (claims gs) a left hs t) (TextBreach (claims gs) a left hs t) (wrong_text gs a left hs t)
+  text_says : (t : ChoiceTree) → Says (TextTree (claims gs) a left hs t) (TextViolation (claims gs) a left hs t) (wrong_text gs a left hs t)
   text_says (settles_content n) = text_content
   text_says (split_on n t u) = text_split
   text_says (settles_rest n) =
-      test_says (LeafRule (λ h. h.rest) (claims gs) left hs (matching a 1 hs) n) (TextBreach (claims gs) a left hs (settles_rest n)) (leaf_stands (λ h. h.rest) left hs (matching a 1 hs) (numbered gs n)) bad_leaf
+      test_says (LeafRule (λ h. h.rest) (claims gs) left hs (matching a 1 hs) n) (TextViolation (claims gs) a left hs (settles_rest n)) (leaf_stands (λ h. h.rest) left hs (matching a 1 hs) (numbered gs n)) bad_leaf
       (leaf_rule_of (λ h. h.rest) hs gs left (matching a 1 hs) n (numbered gs n) refl) (rule_leaf (λ h. h.rest) hs gs left (matching a 1 hs) n) (λ f. text_leaf f)
 
-  -- the rules allow no breach
-  tree_not : {s : Sides} {t : ChoiceTree} {r : Reason} → TreeBreach (claims gs) a left hs s t r → LabelTree (claims gs) a left hs s t → ⊥
+  -- the rules allow no violation
+  tree_not : {s : Sides} {t : ChoiceTree} {r : Reason} → TreeViolation (claims gs) a left hs s t r → LabelTree (claims gs) a left hs s t → ⊥
   tree_not (content_leaf f) l = f l
   tree_not (rest_leaf f) l = f l
   tree_not (at_split f) l = f l.0
   tree_not (in_content h b) l = tree_not b l.1
   tree_not (in_rest h k b) l = tree_not b l.2
 
-  text_not : {t : ChoiceTree} {r : Reason} → TextBreach (claims gs) a left hs t r → TextTree (claims gs) a left hs t → ⊥
+  text_not : {t : ChoiceTree} {r : Reason} → TextViolation (claims gs) a left hs t r → TextTree (claims gs) a left hs t → ⊥
   text_not (text_leaf f) l = f l
   text_not text_content l = l
   text_not text_split l = l
 
   -- and there is one at most
-  tree_one : {s : Sides} {t : ChoiceTree} {r q : Reason} → TreeBreach (claims gs) a left hs s t r → TreeBreach (claims gs) a left hs s t q → r ≡ q
+  tree_one : {s : Sides} {t : ChoiceTree} {r q : Reason} → TreeViolation (claims gs) a left hs s t r → TreeViolation (claims gs) a left hs s t q → r ≡ q
   tree_one (content_leaf f) (content_leaf g) = refl
   tree_one (rest_leaf f) (rest_leaf g) = refl
   tree_one (at_split f) (at_split g) = refl
@@ -205,25 +205,25 @@ module _ (gs : List Goal) (a : Atom) (left : Head Tree) (hs : List (Head Tree)) 
   tree_one (in_rest h k b) (in_content i c) = absurd (tree_not c k)
   tree_one (in_rest h k b) (in_rest i j c) = tree_one b c
 
-  text_one : {t : ChoiceTree} {r q : Reason} → TextBreach (claims gs) a left hs t r → TextBreach (claims gs) a left hs t q → r ≡ q
+  text_one : {t : ChoiceTree} {r q : Reason} → TextViolation (claims gs) a left hs t r → TextViolation (claims gs) a left hs t q → r ≡ q
   text_one (text_leaf f) (text_leaf g) = refl
   text_one text_content text_content = refl
   text_one text_split text_split = refl
 
 module _ (gs : List Goal) (left : Head Tree) (hs : List (Head Tree)) where
-  tree_says : (a : Atom) (t : ChoiceTree) → Says (TreeRule (claims gs) a left hs t) (ChoiceBreach (claims gs) a left hs t) (wrong_tree gs a left hs t)
+  tree_says : (a : Atom) (t : ChoiceTree) → Says (TreeRule (claims gs) a left hs t) (ChoiceViolation (claims gs) a left hs t) (wrong_tree gs a left hs t)
   tree_says (Label l) t = choice_says gs (Label l) left hs no_sides t
   tree_says OtherLabel t = choice_says gs OtherLabel left hs no_sides t
   tree_says (Text s) t = text_says gs (Text s) left hs t
   tree_says OtherText t = text_says gs OtherText left hs t
 
-  choice_not : (a : Atom) (t : ChoiceTree) (r : Reason) → ChoiceBreach (claims gs) a left hs t r → TreeRule (claims gs) a left hs t → ⊥
+  choice_not : (a : Atom) (t : ChoiceTree) (r : Reason) → ChoiceViolation (claims gs) a left hs t r → TreeRule (claims gs) a left hs t → ⊥
   choice_not (Label l) t r b k = tree_not gs (Label l) left hs b k
   choice_not OtherLabel t r b k = tree_not gs OtherLabel left hs b k
   choice_not (Text s) t r b k = text_not gs (Text s) left hs b k
   choice_not OtherText t r b k = text_not gs OtherText left hs b k
 
-  choice_one : (a : Atom) (t : ChoiceTree) (r q : Reason) → ChoiceBreach (claims gs) a left hs t r → ChoiceBreach (claims gs) a left hs t q → r ≡ q
+  choice_one : (a : Atom) (t : ChoiceTree) (r q : Reason) → ChoiceViolation (claims gs) a left hs t r → ChoiceViolation (claims gs) a left hs t q → r ≡ q
   choice_one (Label l) t r q b c = tree_one gs (Label l) left hs b c
   choice_one OtherLabel t r q b c = tree_one gs OtherLabel left hs b c
   choice_one (Text s) t r q b c = text_one gs (Text s) left hs b c
@@ -258,25 +258,25 @@ module _ (E : Definitions) (gs : List Goal) (g : Goal) where
   cases_joined : (c : Case) (cs : List Case) (w : HeadAtom) (ws : List HeadAtom) → head_atom c ≡ w → CaseRule (claims gs) (heads E g.left) (right_heads E g) c → Cases ws cs → Cases (w ∷ ws) (c ∷ cs)
   cases_joined c cs w ws e r k = (ap (λ (v : HeadAtom). v ∷ map head_atom cs) e ∙ ap (λ l. w ∷ l) k.0, (r, k.1))
 
-  cases_says : (n : ℕ) (ws : List HeadAtom) (cs : List Case) → Stand ws → SaysAt (Cases ws cs) (CasesBreach E gs g n ws cs) (wrong_cases E gs g n ws cs)
+  cases_says : (n : ℕ) (ws : List HeadAtom) (cs : List Case) → Stand ws → SaysAt (Cases ws cs) (CasesViolation E gs g n ws cs) (wrong_cases E gs g n ws cs)
   cases_says n [] [] W = (refl, tt)
   cases_says n [] (c ∷ cs) W = too_many
   cases_says n (w ∷ ws) [] W = too_few
   cases_says n (w ∷ ws) (c ∷ cs) W = by_case (same_head_atom c w) refl (cases_says (n + 1) ws cs (λ v i. W v (inr i)))
     where
-      by_rest : (p : Option Refusal) → SaysAt (Cases ws cs) (CasesBreach E gs g (n + 1) ws cs) p → head_atom c ≡ w → CaseRule (claims gs) (heads E g.left) (right_heads E g) c →
-          SaysAt (Cases (w ∷ ws) (c ∷ cs)) (CasesBreach E gs g n (w ∷ ws) (c ∷ cs)) p
+      by_rest : (p : Option Refusal) → SaysAt (Cases ws cs) (CasesViolation E gs g (n + 1) ws cs) p → head_atom c ≡ w → CaseRule (claims gs) (heads E g.left) (right_heads E g) c →
+          SaysAt (Cases (w ∷ ws) (c ∷ cs)) (CasesViolation E gs g n (w ∷ ws) (c ∷ cs)) p
       by_rest None k e r = cases_joined c cs w ws e r k
       by_rest (Some q) b e r = later_case e r b
 
       by_tree : (left : Head Tree) → numbered (heads E g.left) c.head ≡ Some left → head_atom c ≡ w → (o : Option Reason)
-          → Says (TreeRule (claims gs) c.atom left (right_heads E g) c.choice) (ChoiceBreach (claims gs) c.atom left (right_heads E g) c.choice) o → SaysAt (Cases ws cs) (CasesBreach E gs g (n + 1) ws cs) (wrong_cases E gs g (n + 1) ws cs)
-          → SaysAt (Cases (w ∷ ws) (c ∷ cs)) (CasesBreach E gs g n (w ∷ ws) (c ∷ cs)) (or_next (at_line n o) (wrong_cases E gs g (n + 1) ws cs))
+          → Says (TreeRule (claims gs) c.atom left (right_heads E g) c.choice) (ChoiceViolation (claims gs) c.atom left (right_heads E g) c.choice) o → SaysAt (Cases ws cs) (CasesViolation E gs g (n + 1) ws cs) (wrong_cases E gs g (n + 1) ws cs)
+          → SaysAt (Cases (w ∷ ws) (c ∷ cs)) (CasesViolation E gs g n (w ∷ ws) (c ∷ cs)) (or_next (at_line n o) (wrong_cases E gs g (n + 1) ws cs))
       by_tree left q e None k m = by_rest (wrong_cases E gs g (n + 1) ws cs) m e (record { left_head = left; stands = q; tree = k })
       by_tree left q e (Some r) b m = in_tree e left q b
 
-      by_head : (o : Option (Head Tree)) → numbered (heads E g.left) c.head ≡ o → head_atom c ≡ w → SaysAt (Cases ws cs) (CasesBreach E gs g (n + 1) ws cs) (wrong_cases E gs g (n + 1) ws cs)
-          → SaysAt (Cases (w ∷ ws) (c ∷ cs)) (CasesBreach E gs g n (w ∷ ws) (c ∷ cs)) (or_next (at_line n (wrong_case gs (right_heads E g) c o)) (wrong_cases E gs g (n + 1) ws cs))
+      by_head : (o : Option (Head Tree)) → numbered (heads E g.left) c.head ≡ o → head_atom c ≡ w → SaysAt (Cases ws cs) (CasesViolation E gs g (n + 1) ws cs) (wrong_cases E gs g (n + 1) ws cs)
+          → SaysAt (Cases (w ∷ ws) (c ∷ cs)) (CasesViolation E gs g n (w ∷ ws) (c ∷ cs)) (or_next (at_line n (wrong_case gs (right_heads E g) c o)) (wrong_cases E gs g (n + 1) ws cs))
       by_head None q e m =
           let x = W w (inl refl) in
           let k : c.head ≡ w.0 = ap (λ (v : HeadAtom). v.0) e in
@@ -284,26 +284,26 @@ module _ (E : Definitions) (gs : List Goal) (g : Goal) where
           absurd (cc)
       by_head (Some left) q e m = by_tree left q e (wrong_tree gs c.atom left (right_heads E g) c.choice) (tree_says gs left (right_heads E g) c.atom c.choice) m
 
-      by_case : (b : Bool) → same_head_atom c w ≡ b → SaysAt (Cases ws cs) (CasesBreach E gs g (n + 1) ws cs) (wrong_cases E gs g (n + 1) ws cs)
-          → SaysAt (Cases (w ∷ ws) (c ∷ cs)) (CasesBreach E gs g n (w ∷ ws) (c ∷ cs))
+      by_case : (b : Bool) → same_head_atom c w ≡ b → SaysAt (Cases ws cs) (CasesViolation E gs g (n + 1) ws cs) (wrong_cases E gs g (n + 1) ws cs)
+          → SaysAt (Cases (w ∷ ws) (c ∷ cs)) (CasesViolation E gs g n (w ∷ ws) (c ∷ cs))
           (or_next (at_line n (reason_unless b bad_case)) (or_next (at_line n (wrong_case gs (right_heads E g) c (numbered (heads E g.left) c.head))) (wrong_cases E gs g (n + 1) ws cs)))
       by_case true e m = by_head (numbered (heads E g.left) c.head) refl (head_atom_is c w e) m
       by_case false e m = other_case (λ q. let k = is_head_atom c w q in cc)
 
-  in_case : (c : Case) (r : Reason) (left : Head Tree) → numbered (heads E g.left) c.head ≡ Some left → ChoiceBreach (claims gs) c.atom left (right_heads E g) c.choice r → CaseRule (claims gs) (heads E g.left) (right_heads E g) c → ⊥
+  in_case : (c : Case) (r : Reason) (left : Head Tree) → numbered (heads E g.left) c.head ≡ Some left → ChoiceViolation (claims gs) c.atom left (right_heads E g) c.choice r → CaseRule (claims gs) (heads E g.left) (right_heads E g) c → ⊥
   in_case c r left q b z =
       let there = z.stands in
       let s : z.left_head ≡ left = cc in
       choice_not gs left (right_heads E g) c.atom c.choice r b (subst (λ h. TreeRule (claims gs) c.atom h (right_heads E g) c.choice) s z.tree)
 
-  cases_not : {n : ℕ} {ws : List HeadAtom} {cs : List Case} {m : ℕ} {r : Reason} → CasesBreach E gs g n ws cs m r → Cases ws cs → ⊥
+  cases_not : {n : ℕ} {ws : List HeadAtom} {cs : List Case} {m : ℕ} {r : Reason} → CasesViolation E gs g n ws cs m r → Cases ws cs → ⊥
   cases_not too_many k = let e = k.0 in cc
   cases_not too_few k = let e = k.0 in cc
   cases_not (other_case f) k = let e = k.0 in f (cc)
   cases_not (in_tree {c} {r} e left q b) k = in_case c r left q b (k.1).0
   cases_not (later_case {ws} {cs} e z b) k = let e = k.0 in let l : map head_atom cs ≡ ws = cc in cases_not b (l, (k.1).1)
 
-  cases_one : {n : ℕ} {ws : List HeadAtom} {cs : List Case} {m k : ℕ} {r q : Reason} → CasesBreach E gs g n ws cs m r → CasesBreach E gs g n ws cs k q → (m ≡ k) × (r ≡ q)
+  cases_one : {n : ℕ} {ws : List HeadAtom} {cs : List Case} {m k : ℕ} {r q : Reason} → CasesViolation E gs g n ws cs m r → CasesViolation E gs g n ws cs k q → (m ≡ k) × (r ≡ q)
   cases_one too_many too_many = (refl, refl)
   cases_one too_few too_few = (refl, refl)
   cases_one (other_case f) (other_case h) = (refl, refl)
@@ -312,7 +312,7 @@ module _ (E : Definitions) (gs : List Goal) (g : Goal) where
   cases_one (in_tree e left p b) (other_case f) = absurd (f e)
   cases_one (in_tree {c} {r} e left p b) (in_tree {r = q} i other o d) =
       let s : other ≡ left = cc in
-      (refl, choice_one gs left (right_heads E g) c.atom c.choice r q b (subst (λ h. ChoiceBreach (claims gs) c.atom h (right_heads E g) c.choice q) s d))
+      (refl, choice_one gs left (right_heads E g) c.atom c.choice r q b (subst (λ h. ChoiceViolation (claims gs) c.atom h (right_heads E g) c.choice q) s d))
   cases_one (in_tree {c} {r} e left p b) (later_case i z d) = absurd (in_case c r left p b z)
   cases_one (later_case e z b) (other_case f) = absurd (f e)
   cases_one (later_case e z b) (in_tree {c} {r} i left p d) = absurd (in_case c r left p d z)
@@ -335,79 +335,79 @@ module _ (E : Definitions) (gs : List Goal) (g : Goal) where
       and_from (can_be_empty E g.left) (right_is_empty E (numbered g.rights n)) r.0 (subst (λ (o : Option Tree). right_is_empty E o ≡ true) (sym r.2) r.3)
 
 module _ (E : Definitions) (gs : List Goal) where
-  goal_says : (l : Lined) → SaysAt (KeepsRules E gs l.goal) (GoalBreach E gs l) (wrong_goal E gs l)
+  goal_says : (l : Lined) → SaysAt (KeepsRules E gs l.goal) (GoalViolation E gs l) (wrong_goal E gs l)
   goal_says l = by_empty (empty_stands E l.goal (l.goal).empty_right) refl
     where
       by_cases : EmptyRule E l.goal (l.goal).empty_right → (o : Option Refusal)
-          → SaysAt (Cases E gs l.goal (wanted (heads E (l.goal).left) (right_heads E l.goal)) (l.goal).cases) (CasesBreach E gs l.goal (line_behind l + empty_lines (l.goal).empty_right) (wanted (heads E (l.goal).left) (right_heads E l.goal)) (l.goal).cases) o
-          → SaysAt (KeepsRules E gs l.goal) (GoalBreach E gs l) o
+          → SaysAt (Cases E gs l.goal (wanted (heads E (l.goal).left) (right_heads E l.goal)) (l.goal).cases) (CasesViolation E gs l.goal (line_behind l + empty_lines (l.goal).empty_right) (wanted (heads E (l.goal).left) (right_heads E l.goal)) (l.goal).cases) o
+          → SaysAt (KeepsRules E gs l.goal) (GoalViolation E gs l) o
       by_cases e None k = record { empty = e; cases = k.0; trees = k.1 }
       by_cases e (Some p) b = in_cases e b
 
       by_empty : (b : Bool) → empty_stands E l.goal (l.goal).empty_right ≡ b
-          → SaysAt (KeepsRules E gs l.goal) (GoalBreach E gs l)
+          → SaysAt (KeepsRules E gs l.goal) (GoalViolation E gs l)
           (or_next (at_line (line_behind l) (reason_unless b bad_empty)) (wrong_cases E gs l.goal (line_behind l + empty_lines (l.goal).empty_right) (wanted (heads E (l.goal).left) (right_heads E l.goal)) (l.goal).cases))
       by_empty true e =
           by_cases (empty_rule E gs l.goal (l.goal).empty_right e) (wrong_cases E gs l.goal (line_behind l + empty_lines (l.goal).empty_right) (wanted (heads E (l.goal).left) (right_heads E l.goal)) (l.goal).cases)
           (cases_says E gs l.goal (line_behind l + empty_lines (l.goal).empty_right) (wanted (heads E (l.goal).left) (right_heads E l.goal)) (l.goal).cases (wanted_stand E gs l.goal))
       by_empty false e = on_empty (λ r. let k = rule_empty E gs l.goal (l.goal).empty_right r in cc)
 
-  goal_not : {l : Lined} {m : ℕ} {r : Reason} → GoalBreach E gs l m r → KeepsRules E gs l.goal → ⊥
+  goal_not : {l : Lined} {m : ℕ} {r : Reason} → GoalViolation E gs l m r → KeepsRules E gs l.goal → ⊥
   goal_not (on_empty f) k = f k.empty
   goal_not {l} (in_cases e b) k = cases_not E gs l.goal b (k.cases, k.trees)
 
-  goal_one : {l : Lined} {m k : ℕ} {r q : Reason} → GoalBreach E gs l m r → GoalBreach E gs l k q → (m ≡ k) × (r ≡ q)
+  goal_one : {l : Lined} {m k : ℕ} {r q : Reason} → GoalViolation E gs l m r → GoalViolation E gs l k q → (m ≡ k) × (r ≡ q)
   goal_one (on_empty f) (on_empty g) = (refl, refl)
   goal_one (on_empty f) (in_cases e b) = absurd (f e)
   goal_one (in_cases e b) (on_empty f) = absurd (f e)
   goal_one {l} (in_cases e b) (in_cases i c) = cases_one E gs l.goal b c
 
-  goals_says : (ls : List Lined) → SaysAt (AllByRecursion (KeepsRules E gs) (goals_of ls)) (GoalsBreach E gs ls) (wrong_goals E gs ls)
+  goals_says : (ls : List Lined) → SaysAt (AllByRecursion (KeepsRules E gs) (goals_of ls)) (GoalsViolation E gs ls) (wrong_goals E gs ls)
   goals_says [] = tt
   goals_says (l ∷ ls) = by_first (wrong_goal E gs l) (goal_says l) (wrong_goals E gs ls) (goals_says ls)
     where
-      by_first : (o : Option Refusal) → SaysAt (KeepsRules E gs l.goal) (GoalBreach E gs l) o → (p : Option Refusal)
-          → SaysAt (AllByRecursion (KeepsRules E gs) (goals_of ls)) (GoalsBreach E gs ls) p
-          → SaysAt (AllByRecursion (KeepsRules E gs) (goals_of (l ∷ ls))) (GoalsBreach E gs (l ∷ ls)) (or_next o p)
+      by_first : (o : Option Refusal) → SaysAt (KeepsRules E gs l.goal) (GoalViolation E gs l) o → (p : Option Refusal)
+          → SaysAt (AllByRecursion (KeepsRules E gs) (goals_of ls)) (GoalsViolation E gs ls) p
+          → SaysAt (AllByRecursion (KeepsRules E gs) (goals_of (l ∷ ls))) (GoalsViolation E gs (l ∷ ls)) (or_next o p)
       by_first None k None m = (k, m)
       by_first None k (Some q) b = later_goal k b
       by_first (Some q) b p m = this_goal b
 
-  goals_not : {ls : List Lined} {m : ℕ} {r : Reason} → GoalsBreach E gs ls m r → AllByRecursion (KeepsRules E gs) (goals_of ls) → ⊥
+  goals_not : {ls : List Lined} {m : ℕ} {r : Reason} → GoalsViolation E gs ls m r → AllByRecursion (KeepsRules E gs) (goals_of ls) → ⊥
   goals_not (this_goal b) k = goal_not b k.0
   goals_not (later_goal h b) k = goals_not b k.1
 
-  goals_one : {ls : List Lined} {m k : ℕ} {r q : Reason} → GoalsBreach E gs ls m r → GoalsBreach E gs ls k q → (m ≡ k) × (r ≡ q)
+  goals_one : {ls : List Lined} {m k : ℕ} {r q : Reason} → GoalsViolation E gs ls m r → GoalsViolation E gs ls k q → (m ≡ k) × (r ≡ q)
   goals_one (this_goal b) (this_goal c) = goal_one b c
   goals_one (this_goal b) (later_goal h c) = absurd (goal_not b h)
   goals_one (later_goal h b) (this_goal c) = absurd (goal_not c h)
   goals_one (later_goal h b) (later_goal i c) = goals_one b c
 
 -- what is computed says whether the rules hold, and else which is broken first
-pub computed : (E : Definitions) (ls : List Lined) → SaysAt (AllByRecursion (KeepsRules E (goals_of ls)) (goals_of ls)) (GoalsBreach E (goals_of ls) ls) (first_wrong E ls)
+pub computed : (E : Definitions) (ls : List Lined) → SaysAt (AllByRecursion (KeepsRules E (goals_of ls)) (goals_of ls)) (GoalsViolation E (goals_of ls) ls) (first_wrong E ls)
 computed E ls = goals_says E (goals_of ls) ls
 
-pub first_is : (E : Definitions) (ls : List Lined) (n : ℕ) (r : Reason) → first_wrong E ls ≡ Some (n, r) → IsFirstBreach E ls n r
+pub first_is : (E : Definitions) (ls : List Lined) (n : ℕ) (r : Reason) → first_wrong E ls ≡ Some (n, r) → IsFirstViolation E ls n r
 first_is E ls n r e =
-    subst (λ (o : Option Refusal). SaysAt (AllByRecursion (KeepsRules E (goals_of ls)) (goals_of ls)) (GoalsBreach E (goals_of ls) ls) o) e (computed E ls)
+    subst (λ (o : Option Refusal). SaysAt (AllByRecursion (KeepsRules E (goals_of ls)) (goals_of ls)) (GoalsViolation E (goals_of ls) ls) o) e (computed E ls)
 
 pub none_is : (E : Definitions) (ls : List Lined) → first_wrong E ls ≡ None → AllByRecursion (KeepsRules E (goals_of ls)) (goals_of ls)
 none_is E ls e =
-    subst (λ (o : Option Refusal). SaysAt (AllByRecursion (KeepsRules E (goals_of ls)) (goals_of ls)) (GoalsBreach E (goals_of ls) ls) o) e (computed E ls)
+    subst (λ (o : Option Refusal). SaysAt (AllByRecursion (KeepsRules E (goals_of ls)) (goals_of ls)) (GoalsViolation E (goals_of ls) ls) o) e (computed E ls)
 
-pub breaches_are_found : BreachesAreFound
-breaches_are_found E ls = by_answer (first_wrong E ls) (computed E ls)
+pub violations_are_found : ViolationsAreFound
+violations_are_found E ls = by_answer (first_wrong E ls) (computed E ls)
   where
-    by_answer : (o : Option Refusal) → SaysAt (AllByRecursion (KeepsRules E (goals_of ls)) (goals_of ls)) (GoalsBreach E (goals_of ls) ls) o
-        → AllByRecursion (KeepsRules E (goals_of ls)) (goals_of ls) ⊎ ((n : ℕ) × (r : Reason) × IsFirstBreach E ls n r)
+    by_answer : (o : Option Refusal) → SaysAt (AllByRecursion (KeepsRules E (goals_of ls)) (goals_of ls)) (GoalsViolation E (goals_of ls) ls) o
+        → AllByRecursion (KeepsRules E (goals_of ls)) (goals_of ls) ⊎ ((n : ℕ) × (r : Reason) × IsFirstViolation E ls n r)
     by_answer None k = inl k
     by_answer (Some p) b = inr (p.0, p.1, b)
 
 pub rules_are_tested : RulesAreTested
 rules_are_tested E ls = (
-  λ f. elim (breaches_are_found E ls) [ inl k ↦ k | inr b ↦ absurd (f b.0 b.1 b.2) ],
+  λ f. elim (violations_are_found E ls) [ inl k ↦ k | inr b ↦ absurd (f b.0 b.1 b.2) ],
   λ k n r b. goals_not E (goals_of ls) b k,
 )
 
-pub breach_is_one : BreachIsOne
-breach_is_one E ls n m r q b c = goals_one E (goals_of ls) b c
+pub violation_is_one : ViolationIsOne
+violation_is_one E ls n m r q b c = goals_one E (goals_of ls) b c
