@@ -19,9 +19,13 @@ use Rattle.xd_command_programs.specs.Types.{AnswersTypes}
 use Rattle.xd_command_programs.specs.Run.{AnswersRun}
 use Rattle.xd_command_programs.specs.Sample.{AnswersSample}
 
+-- What each command answers: on a program first the faults of its text, and then what stands under
+-- the command's name.
 abbrev pub Answers : Command → Holding → (rose : Type 0) → Output → Type 0
-Answers (Fits file name document) holds rose = AnswersOn holds rose file (AnswersFits holds rose name document)
-Answers (Stream file name document piece) holds rose = AnswersOn holds rose file (AnswersStream holds rose name document)
+Answers (Fits file name document) holds rose =
+    AnswersOn holds rose file (AnswersFits holds rose name document)
+Answers (Stream file name document piece) holds rose =
+    AnswersOn holds rose file (AnswersStream holds rose name document)
 Answers (Subtype file left right) holds rose = AnswersOn holds rose file (AnswersSubtype left right)
 Answers (Minus file left right) holds rose = AnswersOn holds rose file (AnswersMinus left right)
 Answers (Verify file proof) holds rose = AnswersOn holds rose file (AnswersVerify holds rose proof)

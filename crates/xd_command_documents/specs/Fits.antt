@@ -18,7 +18,8 @@ pub record FitsType (E : Definitions) (T : Tree) (d : Document) : Type 0 where
 
 -- no type has this name
 abbrev pub EndsAtName : ProgramTree → (name : List ℕ) → Output → Type 0
-EndsAtName P name o = (is_defined P name ≡ false) × (o ≡ fault_lines (record { place = None; kind = NoSuchName name } ∷ []))
+EndsAtName P name o =
+    (is_defined P name ≡ false) × (o ≡ fault_lines (record { place = None; kind = NoSuchName name } ∷ []))
 
 -- whether the document fits the type
 abbrev pub AnswersMembership : ProgramTree → (name : List ℕ) → Document → Output → Type 0
@@ -26,7 +27,9 @@ AnswersMembership P name d o =
     (types.Fits (names_of P) (type_named name) d × (o ≡ yes))
     ⊎ ((types.Fits (names_of P) (type_named name) d → ⊥) × (o ≡ no))
 
+-- of a program without faults: the name, the document, and whether it fits
 abbrev pub AnswersFits : Holding → (rose : Type 0) → (name document : List ℕ) → ProgramTree → Output → Type 0
 AnswersFits holds rose name document P o =
     EndsAtName P name o
-    ⊎ ((is_defined P name ≡ true) × Step (EndsAtDocument holds rose document) (IsDocument holds document) (AnswersMembership P name) o)
+    ⊎ ((is_defined P name ≡ true)
+    × Step (EndsAtDocument holds rose document) (IsDocument holds document) (AnswersMembership P name) o)

@@ -14,6 +14,7 @@ AnswersLeastOf E T o =
     ((d : Document) × IsLeast (FitsType E T) d × (o ≡ canonical d))
     ⊎ (((d : Document) → FitsType E T d → ⊥) × (o ≡ no))
 
+-- of a program without faults: the name, and a least document of the type
 abbrev pub AnswersLeast : (name : List ℕ) → ProgramTree → Output → Type 0
 AnswersLeast name P o =
     EndsAtName P name o

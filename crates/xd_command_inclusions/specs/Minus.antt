@@ -12,8 +12,10 @@ use Rattle.xd_command_inclusions.specs.Subtype.{EndsAtNames, undefined_names}
 -- the text of definitions that show the documents of the first type alone, by names that no type of
 -- the program has
 abbrev pub AnswersDifference : ProgramTree → (left right : Tree) → Output → Type 0
-AnswersDifference P L R o = (o.status ≡ 0) × IsShownText (FitsAlone (names_of P) L R) (defined_names P) o.text
+AnswersDifference P L R o =
+    (o.status ≡ 0) × IsShownText (FitsAlone (names_of P) L R) (defined_names P) o.text
 
+-- of a program without faults: the names, and the difference of the types
 abbrev pub AnswersMinus : (left right : List ℕ) → ProgramTree → Output → Type 0
 AnswersMinus left right P o =
     EndsAtNames P left right o

@@ -19,8 +19,10 @@ undefined P name = cond (is_defined P name) [] (record { place = None; kind = No
 abbrev pub undefined_names : ProgramTree → (left right : List ℕ) → List Fault
 undefined_names P left right = undefined P left ++ undefined P right
 
+-- no type has the one name or the other
 abbrev pub EndsAtNames : ProgramTree → (left right : List ℕ) → Output → Type 0
-EndsAtNames P left right o = (undefined_names P left right ≢ []) × (o ≡ fault_lines (undefined_names P left right))
+EndsAtNames P left right o =
+    (undefined_names P left right ≢ []) × (o ≡ fault_lines (undefined_names P left right))
 
 -- the output is a least document of these, as one that separates
 abbrev pub WritesLeast : (Document → Type 0) → Output → Type 0
@@ -33,6 +35,7 @@ AnswersInclusion P L R o =
     (Included (names_of P) L (R ∷ []) × (o.status ≡ 0) × ProvesInclusion P L R o.text)
     ⊎ WritesLeast (FitsAlone (names_of P) L R) o
 
+-- of a program without faults: the names, and whether the one type is included in the other
 abbrev pub AnswersSubtype : (left right : List ℕ) → ProgramTree → Output → Type 0
 AnswersSubtype left right P o =
     EndsAtNames P left right o

@@ -21,14 +21,19 @@ pub record IsProved (P : ProgramTree) (goals : List Lined) (o : Output) : Type 0
 
 -- The proof is consistent, and its claim holds; or a line breaks a rule, which is the first one.
 abbrev pub Judges : ProgramTree → List Lined → Output → Type 0
-Judges P goals o = IsProved P goals o ⊎ ((n : ℕ) × (reason : Reason) × IsFirstViolation (names_of P) goals n reason × (o ≡ bad_line n reason))
+Judges P goals o =
+    IsProved P goals o
+    ⊎ ((n : ℕ) × (reason : Reason) × IsFirstViolation (names_of P) goals n reason × (o ≡ bad_line n reason))
 
+-- of a program without faults: the proof text, and whether it keeps the rules
 abbrev pub AnswersVerify : Holding → (rose : Type 0) → (proof : List ℕ) → ProgramTree → Output → Type 0
-AnswersVerify holds rose proof P o = Step (EndsAtProof holds rose proof P) (IsProof holds proof P) (Judges P) o
+AnswersVerify holds rose proof P o =
+    Step (EndsAtProof holds rose proof P) (IsProof holds proof P) (Judges P) o
 
 -- the goals, in the second format
 abbrev pub Upgrades : List Lined → Output → Type 0
 Upgrades goals o = o ≡ record { status = 0; text = second_text_of (goals_of goals) }
 
+-- of a program without faults: the proof text, written in the second format
 abbrev pub AnswersUpgrade : Holding → (rose : Type 0) → (proof : List ℕ) → ProgramTree → Output → Type 0
 AnswersUpgrade holds rose proof P o = Step (EndsAtProof holds rose proof P) (IsProof holds proof P) Upgrades o

@@ -3,7 +3,7 @@
 use Rattle.std.proofs.Common.{◌≡◌, ◌≤◌, ◌⊎◌, ◌-◌, ℕ, Bool, true, false, cond, inl, inr, List, [], ◌∷◌, ◌++◌, Option, Some, None, refl, sym, ap, subst, ◌∙◌, arith}
 use Rattle.std.specs.Prelude.{codes}
 use Rattle.std.specs.List.{AllZip}
-use Rattle.xd_show_blocks.specs.Blocks.{AreBlocks, Block, IsBlockOf, Shows}
+use Rattle.xd_show_blocks.specs.Blocks.{AreBlocks, VariableBlock, IsBlockOf, Shows}
 use Rattle.xd_shown.specs.Shown.{defined_names}
 use Rattle.xd_variables.specs.Seen.{Gives, Reading, SeenVariable}
 use Rattle.xd_doc.specs.Document.{Document, size}
@@ -227,14 +227,14 @@ module _ (D : Document → Type 0) (taken : List (List ℕ)) where
       }
 
 module _ (B : Reading) (P : ProgramTree) where
-  block_same : (v : SeenVariable) (b c : Block) → IsBlockOf B P v b → IsBlockOf B P v c → IsSameBlock b c
+  block_same : (v : SeenVariable) (b c : VariableBlock) → IsBlockOf B P v b → IsBlockOf B P v c → IsSameBlock b c
   block_same v b c h k = record {
     place = h.place ∙ sym k.place;
     variable = h.variable ∙ sym k.variable;
     same = show_the_same (Gives B P v) (defined_names P) b.program c.program b.start c.start h.shows k.shows;
   }
 
-  blocks_same : (vs : List SeenVariable) (bs cs : List Block) → AllZip (IsBlockOf B P) vs bs → AllZip (IsBlockOf B P) vs cs → AllPaired IsSameBlock bs cs
+  blocks_same : (vs : List SeenVariable) (bs cs : List VariableBlock) → AllZip (IsBlockOf B P) vs bs → AllZip (IsBlockOf B P) vs cs → AllPaired IsSameBlock bs cs
   blocks_same [] [] [] z w = tt
   blocks_same [] [] (c ∷ cs) z w = absurd w
   blocks_same [] (b ∷ bs) cs z w = absurd z

@@ -1,5 +1,5 @@
 -- What shown definitions of types spell.
-use Rattle.std.proofs.Common.{◌≡◌, ℕ, List, [], ◌∷◌, Some, refl, sym, ap, subst, ◌∙◌}
+use Rattle.std.proofs.Common.{◌≡◌, ◌↔◌, ℕ, List, [], ◌∷◌, Some, refl, sym, ap, subst, ◌∙◌}
 use Rattle.std.specs.Prelude.{map, slice_get}
 use Rattle.xd_show_blocks.specs.Blocks.{Shows, shown_text}
 use Rattle.xd_doc.specs.Document.{Document}
@@ -8,7 +8,8 @@ use Rattle.xd_shown.specs.Shown.{defined_names}
 use Rattle.xd_syntax.specs.May.{MayBind}
 use Rattle.xd_syntax.specs.Placed.{unplaced}
 use Rattle.xd_syntax.specs.Program.{ProgramTree, TypeDefinition, names_of}
-use Rattle.xd_syntax.specs.Tree.{Tree, Name}
+use Rattle.xd_syntax.specs.Tree.{Tree, Name, Definitions, environment}
+use Rattle.xd_syntax.specs.Fits.{Fits}
 use Rattle.xd_type_laws.specs.DefinitionsText.{type_definitions}
 use Rattle.xd_variables.specs.Seen.{Gives, Reading}
 use Rattle.xd_command_laws.specs.ReadBack.{SpellsTypesOf, DifferencesReadBack, BlockReadsBack, BlocksReadBack}
@@ -25,11 +26,14 @@ names_defined P = go P.types
     go [] = refl
     go (t ∷ ts) = ap (λ ns. t.name ∷ ns) (go ts)
 
+-- by programs of the same definitions the same documents fit each type
+same_fits : (P Q : ProgramTree) → type_definitions Q ≡ type_definitions P → (T : Tree) (d : Document) → Fits (names_of Q) T d ↔ Fits (names_of P) T d
+same_fits P Q e T d = subst (λ (E : Definitions). Fits (environment E) T d ↔ Fits (names_of P) T d) (sym e) (λ f. f, λ f. f)
+
 module _ (D : Document → Type 0) (taken : List (List ℕ)) where
   read_back : (Q : ProgramTree) (start : List ℕ) → Shows D taken Q start → SpellsTypesOf D (shown_text Q)
   read_back Q start s =
-      let back = s.reads_back in
-      let r = back.text in
+      let r = s.reads_back in
       let shown = s.shown in
       record {
         program = r.program;
@@ -37,7 +41,7 @@ module _ (D : Document → Type 0) (taken : List (List ℕ)) where
         spelled = r.spelled;
         types_only = r.functions;
         first = subst (λ ns. slice_get ns 0 ≡ Some start) (names_defined Q ∙ ap (map first_of) (sym r.types) ∙ sym (names_defined r.program)) shown.first;
-        exact = λ d p. let e = shown.exact d p in let f = back.same (Name start) d in ((λ h. e.0 (f.0 h)), (λ h. f.1 (e.1 h)));
+        exact = λ d p. let e = shown.exact d p in let f = same_fits Q r.program r.types (Name start) d in ((λ h. e.0 (f.0 h)), (λ h. f.1 (e.1 h)));
       }
 
 pub differences_read_back : DifferencesReadBack

@@ -1,14 +1,15 @@
 -- That the same words and the same texts have one answer, but where the definitions leave a choice.
 use Rattle.std.specs.Prelude.{◌≡◌, ◌⊎◌, ◌↔◌, ℕ, true, List, ◌++◌, Option, Some, None, slice_get}
 use Rattle.xd_base.specs.Outside.{HasRisen}
-use Rattle.xd_show_blocks.specs.Blocks.{Block, blocks_text, shown_text}
+use Rattle.xd_show_blocks.specs.Blocks.{VariableBlock, blocks_text, shown_text}
 use Rattle.xd_doc.specs.Document.{Document, is_proper, size}
-use Rattle.xd_shown.specs.ReadBack.{ReadsBack}
 use Rattle.xd_shown.specs.Shown.{defined_names}
 use Rattle.xd_syntax.specs.CheckFaults.{Line}
 use Rattle.xd_syntax.specs.Fits.{Fits as FitsIn}
 use Rattle.xd_syntax.specs.Program.{ProgramTree, names_of}
 use Rattle.xd_syntax.specs.Tree.{Name}
+use Rattle.xd_type_laws.specs.DefinitionsText.{type_definitions}
+use Rattle.xd_type_laws.specs.ReadsBack.{AreReadBack}
 use Rattle.xd_meaning.specs.KeptFaults.{AllPaired}
 use Rattle.xd_laws.specs.SameLines.{IsSameLine}
 use Rattle.xd_command.specs.declared.command.Command.{Command}
@@ -42,8 +43,8 @@ pub record FaultsAlike (o p : Output) : Type 0 where
 -- The texts of both programs read back, and of proper documents the same ones fit the first names
 -- of both.
 pub record ShowTheSame (P : ProgramTree) (start : List ℕ) (Q : ProgramTree) (other_start : List ℕ) : Type 0 where
-  pub reads_back : ReadsBack P
-  pub other_reads_back : ReadsBack Q
+  pub reads_back : AreReadBack (type_definitions P)
+  pub other_reads_back : AreReadBack (type_definitions Q)
   pub first : slice_get (defined_names P) 0 ≡ Some start
   pub other_first : slice_get (defined_names Q) 0 ≡ Some other_start
   pub same : (d : Document) → is_proper d ≡ true → FitsIn (names_of P) (Name start) d ↔ FitsIn (names_of Q) (Name other_start) d
@@ -61,7 +62,7 @@ pub record ShowAlike (o p : Output) : Type 0 where
   pub other : p.text ≡ shown_text other_program
 
 -- blocks of one variable that show the same documents
-pub record IsSameBlock (b c : Block) : Type 0 where
+pub record IsSameBlock (b c : VariableBlock) : Type 0 where
   pub place : b.place ≡ c.place
   pub variable : b.variable ≡ c.variable
   pub same : ShowTheSame b.program b.start c.program c.start

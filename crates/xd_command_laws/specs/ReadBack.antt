@@ -1,7 +1,7 @@
 -- That the definitions of types that `minus`, `types` and `precise` write read back to types that
 -- just the documents fit which they are to show.
 use Rattle.std.specs.Prelude.{◌≡◌, ◌↔◌, ℕ, true, List, [], Some, slice_get}
-use Rattle.xd_show_blocks.specs.Blocks.{Block, IsBlockOf, shown_text}
+use Rattle.xd_show_blocks.specs.Blocks.{VariableBlock, IsBlockOf, shown_text}
 use Rattle.xd_doc.specs.Document.{Document, is_proper}
 use Rattle.xd_prefer.specs.Preferred.{Prefers}
 use Rattle.xd_shown.specs.Shown.{defined_names}
@@ -30,7 +30,7 @@ DifferencesReadBack = (P : ProgramTree) (L R : Tree) (o : Output) → AnswersDif
 
 -- so do those of a block
 abbrev pub BlockReadsBack : Reading → Type 0
-BlockReadsBack B = (P : ProgramTree) (v : SeenVariable) (b : Block) → IsBlockOf B P v b → SpellsTypesOf (Gives B P v) (shown_text b.program)
+BlockReadsBack B = (P : ProgramTree) (v : SeenVariable) (b : VariableBlock) → IsBlockOf B P v b → SpellsTypesOf (Gives B P v) (shown_text b.program)
 
 abbrev pub BlocksReadBack : Type 0
 BlocksReadBack = BlockReadsBack MayBind × BlockReadsBack Prefers

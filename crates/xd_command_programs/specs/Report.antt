@@ -2,7 +2,7 @@
 use Rattle.std.specs.Prelude.{ℕ, List, [], ◌++◌, Option, Some, None, codes, decimal, flat_map}
 use Rattle.xd_doc.specs.Document.{Document, canonical_text}
 use Rattle.xd_syntax.specs.CheckFaults.{LineKind, not_exhaustive, wrong_argument, wrong_result, dead_clause, Line}
-use Rattle.xd_report.specs.Report.{place_front}
+use Rattle.xd_report.specs.Report.{argument_words, match_words, place_front, result_words, warning_words}
 
 -- the document that a line carries
 abbrev pub carried : Option Document → List ℕ
@@ -15,11 +15,12 @@ fault_with n what d = codes "fault " ++ decimal n ++ codes ": " ++ (what ++ carr
 
 -- what a line says after its place
 abbrev pub said : LineKind → Option Document → List ℕ
-said not_exhaustive d = fault_with 12 (codes "match is not exhaustive: ") d
-said wrong_argument d = fault_with 13 (codes "argument does not fit: ") d
-said wrong_result d = fault_with 14 (codes "result does not fit: ") d
-said dead_clause d = codes "warning 1: clause is never reached\n"
+said not_exhaustive d = fault_with 12 match_words d
+said wrong_argument d = fault_with 13 argument_words d
+said wrong_result d = fault_with 14 result_words d
+said dead_clause d = warning_words
 
+-- a line, with its place
 abbrev pub line_text : Line → List ℕ
 line_text l = place_front l.place ++ said l.kind l.document
 

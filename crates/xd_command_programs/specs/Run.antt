@@ -16,11 +16,13 @@ use Rattle.xd_command_steps.specs.Step.{Step}
 use Rattle.xd_command_steps.specs.Texts.{Holding}
 use Rattle.xd_command_steps.specs.Documents.{EndsAtDocument, IsDocument}
 
+-- the declared type of the only parameter, places aside
 abbrev pub only_declared : List Parameter → Option Tree
 only_declared [] = None
 only_declared (q ∷ []) = Some (unplaced q.declared)
 only_declared (q ∷ (r ∷ qs)) = None
 
+-- that of a function, if there is one
 abbrev pub declared_input : Option FunctionDefinition → Option Tree
 declared_input None = None
 declared_input (Some f) = only_declared f.parameters
@@ -36,6 +38,7 @@ pub record EndsAtLines (P : ProgramTree) (o : Output) : Type 0 where
   pub some : faults_among lines ≢ []
   pub output : o ≡ record { status = 1; text = lines_text (faults_among lines) }
 
+-- the program has no function `main` with one parameter
 abbrev pub no_main : Output
 no_main = fault_lines (record { place = None; kind = NoMain } ∷ [])
 
@@ -56,12 +59,18 @@ pub record IsValue (P : ProgramTree) (T : Tree) (fuel : ℕ) (d : Document) (mad
 
 -- what the program means on so many calls is written, where the document is an input
 abbrev pub AnswersInput : ProgramTree → Tree → (fuel : ℕ) → Document → Output → Type 0
-AnswersInput P T fuel d o = Step (EndsAtValue P T fuel d) (IsValue P T fuel d) (λ made o. o ≡ canonical made.0) o
+AnswersInput P T fuel d o =
+    Step (EndsAtValue P T fuel d) (IsValue P T fuel d) (λ made o. o ≡ canonical made.0) o
 
-abbrev pub AnswersMain : Holding → (rose : Type 0) → (document : List ℕ) → (fuel : ℕ) → ProgramTree → Option Tree → Output → Type 0
+-- of an accepted program: its input type, if it has one, and the document
+abbrev pub AnswersMain :
+    Holding → (rose : Type 0) → (document : List ℕ) → (fuel : ℕ) → ProgramTree → Option Tree → Output → Type 0
 AnswersMain holds rose document fuel P None o = o ≡ no_main
-AnswersMain holds rose document fuel P (Some T) o = Step (EndsAtDocument holds rose document) (IsDocument holds document) (AnswersInput P T fuel) o
+AnswersMain holds rose document fuel P (Some T) o =
+    Step (EndsAtDocument holds rose document) (IsDocument holds document) (AnswersInput P T fuel) o
 
-abbrev pub AnswersRun : Holding → (rose : Type 0) → (document : List ℕ) → (fuel : ℕ) → ProgramTree → Output → Type 0
+-- of a program without faults of names and recursion: all its faults, and then the run
+abbrev pub AnswersRun :
+    Holding → (rose : Type 0) → (document : List ℕ) → (fuel : ℕ) → ProgramTree → Output → Type 0
 AnswersRun holds rose document fuel P o =
     EndsAtLines P o ⊎ (IsAccepted P × AnswersMain holds rose document fuel P (input_type P) o)

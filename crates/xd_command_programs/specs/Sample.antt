@@ -5,11 +5,14 @@ use Rattle.std.specs.Prelude.{◌≡◌, ℕ, ◌+◌, length}
 use Rattle.xd_doc.specs.Document.{canonical_text}
 use Rattle.xd_command_sample.specs.Persons.{sample_of, telephones_to}
 use Rattle.xd_command_steps.specs.Output.{Output, summary}
-use Rattle.xd_command_programs.specs.declared.command.sample.TheConstants.{SAMPLE_LIMIT}
 
 -- how many persons a sample may have
 abbrev pub sample_limit : ℕ
-sample_limit = SAMPLE_LIMIT
+sample_limit = 2000
 
+-- of so many persons
 abbrev pub AnswersSample : (persons : ℕ) → Output → Type 0
-AnswersSample persons o = o ≡ summary persons (length (canonical_text (sample_of persons))) (length (canonical_text (telephones_to persons))) (persons + 1)
+AnswersSample persons o =
+    o
+    ≡ summary persons (length (canonical_text (sample_of persons)))
+    (length (canonical_text (telephones_to persons))) (persons + 1)

@@ -21,7 +21,9 @@ persons_to (suc n) d = persons_to n (person (suc n) d)
 
 -- the name and the telephone of the person of this number, where it has one, and then the document
 abbrev pub listed : ℕ → Document → Document
-listed i d = if nat_eq (i % 3) 0 then d else field (codes "name") (codes "p" ++ decimal i) (field (codes "tel") (decimal i) d)
+listed i d =
+    if nat_eq (i % 3) 0 then d
+    else field (codes "name") (codes "p" ++ decimal i) (field (codes "tel") (decimal i) d)
 
 -- those of the persons from 1 to this number, in order, and then the document
 abbrev pub listed_to : ℕ → Document → Document

@@ -25,9 +25,11 @@ pub record IsSoundText (text : List ℕ) (P : ProgramTree) : Type 0 where
   pub spelled : IsProgramText text P
   pub sound : IsSound P
 
+-- the text has faults, and these are listed
 abbrev pub EndsAtFaults : (text : List ℕ) → Output → Type 0
 EndsAtFaults text o = (fs : List Fault) × AreTextFaults text fs × (o ≡ fault_lines fs)
 
+-- the file has no text of a program without these faults
 abbrev pub EndsAtProgram : Holding → (rose : Type 0) → (file : List ℕ) → Output → Type 0
 EndsAtProgram holds rose file o =
     EndsAtText holds rose file program_limit o
@@ -39,5 +41,6 @@ IsProgram holds file P = (text : List ℕ) × IsText holds file program_limit te
 
 -- how a command on the program of the file answers: by the faults of its text, or as `next` says of
 -- the program
-abbrev pub AnswersOn : Holding → (rose : Type 0) → (file : List ℕ) → (next : ProgramTree → Output → Type 0) → Output → Type 0
+abbrev pub AnswersOn :
+    Holding → (rose : Type 0) → (file : List ℕ) → (next : ProgramTree → Output → Type 0) → Output → Type 0
 AnswersOn holds rose file next = Step (EndsAtProgram holds rose file) (IsProgram holds file) next

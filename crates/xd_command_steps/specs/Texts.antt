@@ -1,16 +1,15 @@
 -- The step that reads a text from the shelf.
-use Rattle.std.specs.Prelude.{◌≡◌, ℕ, ◌<◌, ◌≤◌, ◌⊎◌, List, length, Option, Some, None}
+use Rattle.std.specs.Prelude.{◌≡◌, ℕ, ◌^◌, ◌<◌, ◌≤◌, ◌⊎◌, List, length, Option, Some, None}
 use Rattle.xd_base.specs.Outside.{IsLacking}
-use Rattle.xd_command_steps.specs.declared.text.TheConstants.{DOCUMENT_LIMIT, PROGRAM_LIMIT}
 use Rattle.xd_command_steps.specs.Output.{Output, cannot_read, too_long}
 
--- The limits of texts, in bytes.
-
+-- how many bytes the text of a program may have
 abbrev pub program_limit : ℕ
-program_limit = PROGRAM_LIMIT
+program_limit = 2 ^ 20
 
+-- how many bytes the text of a document, or of a proof, may have
 abbrev pub document_limit : ℕ
-document_limit = DOCUMENT_LIMIT
+document_limit = 2 ^ 24
 
 -- the texts of a shelf by their names, where it tells what it holds
 abbrev pub Holding : Type 0
@@ -28,5 +27,6 @@ EndsAtText holds rose name limit o =
     ((rose ⊎ IsLacking holds name) × (o ≡ cannot_read name))
     ⊎ ((text : List ℕ) × IsHeld holds name text × (limit < length text) × (o ≡ too_long name))
 
+-- the text of this name, no longer than the limit
 abbrev pub IsText : Holding → (name : List ℕ) → (limit : ℕ) → (text : List ℕ) → Type 0
 IsText holds name limit text = IsHeld holds name text × (length text ≤ limit)

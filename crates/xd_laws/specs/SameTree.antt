@@ -9,6 +9,7 @@ use Rattle.xd_syntax.specs.Tree.{Tree, Empty, Text, Words, Name, Elem, Seq, Alt,
 abbrev pub same_class : LabelClass → LabelClass → Bool
 same_class c e = cond c.except e.except (not e.except) && pointwise bytes_eq c.names e.names
 
+-- types by their forms, and names and variables by their words
 abbrev pub same_tree : Tree → Tree → Bool
 same_tree Empty Empty = true
 same_tree Text Text = true

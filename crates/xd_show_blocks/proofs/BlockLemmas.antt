@@ -27,7 +27,7 @@ use Rattle.xd_variables.specs.Seen.{AreSeenVariables, Gives, Reading, SeenVariab
 use Rattle.xd_variables.specs.declared.variables.BoundVariable.{BoundVariable}
 use Rattle.xd_show_blocks.specs.AtStates.{Accepted, AddsBlock, AreShownBy, HasBlocks, IsBlockAt, IsShownBy, text_of_block}
 use Rattle.xd_show_blocks.specs.declared.shown.ShownState.{ShownState}
-use Rattle.xd_show_blocks.specs.Blocks.{AreBlocks, Block, IsBlockOf, IsShownText, Shows, block_text, blocks_text, shown_text}
+use Rattle.xd_show_blocks.specs.Blocks.{AreBlocks, VariableBlock, IsBlockOf, IsShownText, Shows, block_text, blocks_text, shown_text}
 
 -- ---- sets that have the same proper documents are shown alike
 abbrev pub SameSet : (D D' : Document → Type 0) → Type 0
@@ -56,7 +56,7 @@ names_of_definitions types (d ∷ ds) = ap (λ ns. d.name ∷ ns) (names_of_defi
 
 -- ---- blocks, one for each variable
 module _ (a : Automaton) (taken : List (List ℕ)) where
-  pub each_more : (xs : List BoundVariable) (bs : List Block) (x : BoundVariable) (b : Block) → AllZip (IsBlockAt a taken) xs bs → IsBlockAt a taken x b → AllZip (IsBlockAt a taken) (xs ++ x ∷ []) (bs ++ b ∷ [])
+  pub each_more : (xs : List BoundVariable) (bs : List VariableBlock) (x : BoundVariable) (b : VariableBlock) → AllZip (IsBlockAt a taken) xs bs → IsBlockAt a taken x b → AllZip (IsBlockAt a taken) (xs ++ x ∷ []) (bs ++ b ∷ [])
   each_more [] [] x b z h = (h, tt)
   each_more [] (c ∷ bs) x b z h = absurd z
   each_more (y ∷ xs) [] x b z h = absurd z
@@ -65,7 +65,7 @@ module _ (a : Automaton) (taken : List (List ℕ)) where
   -- the block of a variable whose state is shown so
   pub block_added : (x : BoundVariable) (k : ShownState) (old new : List ℕ) → IsShownBy (Accepted a x.state) taken k → new ≡ old ++ text_of_block x k → AddsBlock a taken x old new
   block_added x k old new s e =
-      let b : Block = record { place = x.place; variable = x.word; program = s.program; start = k.start } in
+      let b : VariableBlock = record { place = x.place; variable = x.word; program = s.program; start = k.start } in
       let same : text_of_block x k ≡ block_text b = ap (λ (t : List ℕ). place_front x.place ++ codes "variable " ++ x.word ++ codes " as " ++ k.start ++ codes "\n" ++ t) s.written in
       record {
         block = b;
@@ -90,14 +90,14 @@ module _ (a : Automaton) (taken : List (List ℕ)) where
     states_there (v ∷ vs) [] z = absurd z
     states_there (v ∷ vs) (x ∷ xs) z = ((z.0).belongs, states_there vs xs z.1)
 
-    block_told : (v : SeenVariable) (x : BoundVariable) (b : Block) → defined_names P ≡ taken → IsBound B P a v x → IsBlockAt a taken x b → IsBlockOf B P v b
+    block_told : (v : SeenVariable) (x : BoundVariable) (b : VariableBlock) → defined_names P ≡ taken → IsBound B P a v x → IsBlockAt a taken x b → IsBlockOf B P v b
     block_told v x b e h k = record {
       place = k.place ∙ h.place;
       variable = k.variable ∙ h.word;
       shows = subst (λ ns. Shows (Gives B P v) ns b.program b.start) (sym e) (shows_along (Accepted a x.state) (Gives B P v) taken b.program b.start h.exact k.shows);
     }
 
-    pub blocks_told : (vs : List SeenVariable) (xs : List BoundVariable) (bs : List Block) → defined_names P ≡ taken → AllZip (IsBound B P a) vs xs → AllZip (IsBlockAt a taken) xs bs → AllZip (IsBlockOf B P) vs bs
+    pub blocks_told : (vs : List SeenVariable) (xs : List BoundVariable) (bs : List VariableBlock) → defined_names P ≡ taken → AllZip (IsBound B P a) vs xs → AllZip (IsBlockAt a taken) xs bs → AllZip (IsBlockOf B P) vs bs
     blocks_told [] [] [] e z w = tt
     blocks_told [] [] (b ∷ bs) e z w = absurd w
     blocks_told [] (x ∷ xs) bs e z w = absurd z
@@ -106,7 +106,7 @@ module _ (a : Automaton) (taken : List (List ℕ)) where
     blocks_told (v ∷ vs) (x ∷ xs) (b ∷ bs) e z w = (block_told v x b e z.0 w.0, blocks_told vs xs bs e z.1 w.1)
 
 -- the text of some blocks is that of all of them, one after the other
-some_blocks : (a : Automaton) (taken : List (List ℕ)) (xs : List BoundVariable) (bs : List Block) → AllZip (IsBlockAt a taken) xs bs → (xs ≡ [] → ⊥) → blocks_text bs ≡ flat_map block_text bs
+some_blocks : (a : Automaton) (taken : List (List ℕ)) (xs : List BoundVariable) (bs : List VariableBlock) → AllZip (IsBlockAt a taken) xs bs → (xs ≡ [] → ⊥) → blocks_text bs ≡ flat_map block_text bs
 some_blocks a taken [] [] z some = absurd (some refl)
 some_blocks a taken (x ∷ xs) [] z some = absurd z
 some_blocks a taken xs (b ∷ bs) z some = refl

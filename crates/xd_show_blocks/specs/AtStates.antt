@@ -9,7 +9,7 @@ use Rattle.xd_doc.specs.Document.{Document}
 use Rattle.xd_report.specs.Report.{place_front}
 use Rattle.xd_syntax.specs.Program.{ProgramTree}
 use Rattle.xd_variables.specs.declared.variables.BoundVariable.{BoundVariable}
-use Rattle.xd_show_blocks.specs.Blocks.{Block, Shows, block_text, shown_text}
+use Rattle.xd_show_blocks.specs.Blocks.{VariableBlock, Shows, block_text, shown_text}
 use Rattle.xd_show_blocks.specs.declared.shown.ShownState.{ShownState}
 
 -- what the state accepts
@@ -27,7 +27,7 @@ abbrev pub AreShownBy : Automaton → List (List ℕ) → BTreeMap ℕ ShownStat
 AreShownBy a taken m = (s : State) (k : ShownState) → get nat_cmp m s.number ≡ Some k → IsShownBy (Accepted a s) taken k
 
 -- the block shows what the variable's state accepts
-pub record IsBlockAt (a : Automaton) (taken : List (List ℕ)) (x : BoundVariable) (b : Block) : Type 0 where
+pub record IsBlockAt (a : Automaton) (taken : List (List ℕ)) (x : BoundVariable) (b : VariableBlock) : Type 0 where
   pub place : b.place ≡ x.place
   pub variable : b.variable ≡ x.word
   pub shows : Shows (Accepted a x.state) taken b.program b.start

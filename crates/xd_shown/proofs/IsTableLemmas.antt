@@ -1,21 +1,19 @@
 -- The text of a program's definitions of types reads back.
-use Rattle.std.proofs.Common.{◌↔◌, false, List, [], ◌∷◌, map, sym, subst}
+use Rattle.std.proofs.Common.{false, List, [], ◌∷◌, map, sym, subst}
 use Rattle.std.specs.List.{AllByRecursion}
-use Rattle.xd_syntax.specs.Tree.{Definitions, environment}
 use Rattle.xd_syntax.specs.Table.{Row}
-use Rattle.xd_syntax.specs.Fits.{Fits}
 use Rattle.xd_syntax.specs.Placed.{unplaced}
-use Rattle.xd_syntax.specs.Program.{TypeDefinition, names_of}
+use Rattle.xd_syntax.specs.Program.{TypeDefinition}
 use Rattle.xd_syntax.specs.Kept.{ProgramTable, TypeDefStands, type_definition, program_tree}
 use Rattle.xd_syntax.specs.Proper.{IsProperDefinition, IsProperProgram}
 use Rattle.xd_syntax.specs.ProperTables.{IsTable}
 use Rattle.xd_syntax.specs.declared.types.TypeDef.{TypeDef}
 use Rattle.xd_syntax.proofs.PlacedTrees.{unplaced_at}
 use Rattle.xd_type_laws.specs.DefinitionsText.{type_definitions}
-use Rattle.xd_type_laws.specs.ReadBackLaws.{IsMerged, IsDefinition}
+use Rattle.xd_type_laws.specs.ReadBackLaws.{IsMerged, IsDefinition, ReadsWithin}
+use Rattle.xd_type_laws.specs.ReadsBack.{AreReadBack}
 use Rattle.xd_type_laws.proofs.Defined.{definitions_read_back}
 use Rattle.xd_type_laws.proofs.Tables.{merged_node}
-use Rattle.xd_shown.specs.ReadBack.{ReadsBack}
 
 are_definitions : (types : List Row) → IsTable false types → (ds : List TypeDef) → AllByRecursion (TypeDefStands types) ds → AllByRecursion IsProperDefinition (map (type_definition types) ds) →
     AllByRecursion IsDefinition (map (λ (t : TypeDefinition). (t.name, unplaced t.body)) (map (type_definition types) ds))
@@ -30,10 +28,7 @@ are_definitions types table (d ∷ ds) s p = (
   are_definitions types table ds s.1 p.1,
 )
 
-pub reads_back : (p : ProgramTable) → IsTable false p.types → AllByRecursion (TypeDefStands p.types) p.type_defs → IsProperProgram (program_tree p) → ReadsBack (program_tree p)
+pub reads_back : (p : ProgramTable) → IsTable false p.types → AllByRecursion (TypeDefStands p.types) p.type_defs → IsProperProgram (program_tree p) →
+    AreReadBack (type_definitions (program_tree p)) × ReadsWithin (type_definitions (program_tree p))
 reads_back p table stands proper =
-    let r = definitions_read_back (type_definitions (program_tree p)) (are_definitions p.types table p.type_defs stands proper.types) in
-    record {
-      text = r;
-      same = λ T d. subst (λ (E : Definitions). Fits (environment E) T d ↔ Fits (names_of (program_tree p)) T d) (sym r.types) (λ f. f, λ f. f);
-    }
+    definitions_read_back (type_definitions (program_tree p)) (are_definitions p.types table p.type_defs stands proper.types)

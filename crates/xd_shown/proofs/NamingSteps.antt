@@ -11,7 +11,7 @@ use Rattle.xd_doc.proofs.SortedNames.{or_false}
 use Rattle.xd_syntax.specs.Words.{any_word, has_word}
 use Rattle.xd_syntax.specs.Keywords.{is_type_name}
 use Rattle.xd_shown.specs.FreeNames.{AreDistinct, AreNewNames}
-use Rattle.xd_shown.specs.Shown.{shown_name, AreNamedFrom, no_more, skipped, named}
+use Rattle.xd_shown.specs.Shown.{shown_name, AreNamedFrom, no_more, skipped, given}
 use Rattle.xd_shown.proofs.NameLaws.{name_proper, name_other, other_names}
 
 -- the same of numbers below 2 ^ 64
@@ -23,7 +23,7 @@ pub data NamedFrom (taken : List (List ℕ)) : ℕ → List (List ℕ) → Type 
 pub are_named : {taken : List (List ℕ)} {n : ℕ} {ws : List (List ℕ)} → NamedFrom taken n ws → AreNamedFrom taken n ws
 are_named ends = no_more
 are_named (passes h t r) = skipped t (are_named r)
-are_named (names h t r) = named t (are_named r)
+are_named (names h t r) = given t (are_named r)
 
 all_proper : {taken : List (List ℕ)} {n : ℕ} {ws : List (List ℕ)} → NamedFrom taken n ws → AllByRecursion (λ w. is_type_name w ≡ true) ws
 all_proper ends = tt

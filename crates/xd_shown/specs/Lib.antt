@@ -1,4 +1,3 @@
 pub mod Shown
 pub mod FreeNames
 pub mod Bodies
-pub mod ReadBack

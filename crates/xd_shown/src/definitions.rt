@@ -9,8 +9,10 @@ ghost use Rattle.xd_syntax.specs.Kept.{program_tree};
 ghost use Rattle.xd_same_types.specs.Grown.{NamesAmong};
 ghost use Rattle.xd_shown.specs.Bodies.{AreBodies, ShowsMeanings, defining, definitions_of};
 ghost use Rattle.xd_shown.specs.FreeNames.{AreNewNames};
-ghost use Rattle.xd_shown.specs.ReadBack.{ReadsBack};
 ghost use Rattle.xd_shown.specs.Shown.{IsShown, none_type};
+ghost use Rattle.xd_type_laws.specs.DefinitionsText.{type_definitions};
+ghost use Rattle.xd_type_laws.specs.ReadBackLaws.{ReadsWithin};
+ghost use Rattle.xd_type_laws.specs.ReadsBack.{AreReadBack};
 
 use crate::names::free_names;
 use std::alloc::Global;
@@ -125,7 +127,8 @@ impl Shown {
 
     /// The text of the definitions reads back. The call does nothing; its contract is the law.
     pub fn see_text(&self)
-        ensures { ReadsBack (program_tree self.now.sound) }
+        ensures text { AreReadBack (type_definitions (program_tree self.now.sound)) }
+        ensures within { ReadsWithin (type_definitions (program_tree self.now.sound)) }
     {
         let program = self.sound.program();
         program.types().see_table();

@@ -58,7 +58,8 @@ placed_body (t ∷ ts) x = cond (bytes_eq t.name x) (Some t.body) (placed_body t
 -- allows
 abbrev pub UsesAtTop : ProgramTree → (Use → Type 0) → List ℕ → List ℕ → Type 0
 UsesAtTop P A x y =
-    (T : PlacedTree) × (u : Use) × (placed_body P.types x ≡ Some T) × IsOneOf u (top_uses T) × (u.name ≡ y) × A u
+    (T : PlacedTree) × (u : Use)
+    × (placed_body P.types x ≡ Some T) × IsOneOf u (top_uses T) × (u.name ≡ y) × A u
 
 -- a chain of such uses leads from the first name to the second, or they are the same
 pub data Leads (P : ProgramTree) (A : Use → Type 0) : List ℕ → List ℕ → Type 0 where

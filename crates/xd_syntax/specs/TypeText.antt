@@ -77,7 +77,8 @@ text_at_level v (Elem c T) =
 text_at_level v (Seq T U) =
     parted (sequence_wants v) (text_at_level postfix_level T ++ codes "," ++ text_at_level sequence_level U)
 text_at_level v (Alt T U) =
-    parted (alternative_wants v) (text_at_level sequence_level T ++ codes "|" ++ text_at_level any_type_level U)
+    parted (alternative_wants v)
+    (text_at_level sequence_level T ++ codes "|" ++ text_at_level any_type_level U)
 text_at_level v (Star T) = parted (postfix_wants v) (text_at_level primary_level T ++ codes "*")
 text_at_level v (Plus T) = parted (postfix_wants v) (text_at_level primary_level T ++ codes "+")
 text_at_level v (Opt T) = parted (postfix_wants v) (text_at_level primary_level T ++ codes "?")

@@ -190,14 +190,15 @@ all_utf8 (d ∷ ds) a = IsUtf8-append (definition_line d) (definitions_text ds) 
 
 pub definitions_read_back : DefinitionsReadBack
 definitions_read_back ds a =
-    let r = all_read (deepest ds) ds a (enough ds) start in
-    record {
-      program = r.program;
-      spelled = record { utf8 = all_utf8 ds a; means = levels_aside r.means };
-      types = r.types;
-      functions = r.functions;
-      within = λ w. record { utf8 = all_utf8 ds a; spells = derived (all_read nesting_limit ds a w start).means [] (end tt) };
-    }
+    let r = all_read (deepest ds) ds a (enough ds) start in (
+      record {
+        program = r.program;
+        spelled = record { utf8 = all_utf8 ds a; means = levels_aside r.means };
+        types = r.types;
+        functions = r.functions;
+      },
+      λ w. record { utf8 = all_utf8 ds a; spells = derived (all_read nesting_limit ds a w start).means [] (end tt) },
+    )
 
 -- ---- the definitions of a program's tables
 module _ (types : List TreeRow) (table : IsTable false types) where

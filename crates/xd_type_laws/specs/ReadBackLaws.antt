@@ -13,7 +13,7 @@ use Rattle.xd_syntax.specs.Placed.{PlacedTree, unplaced}
 use Rattle.xd_syntax.specs.Kept.{ProgramTable, IsKept, program_tree}
 use Rattle.xd_syntax.specs.TypeText.{type_text}
 use Rattle.xd_syntax.specs.TypeDepth.{depth}
-use Rattle.xd_type_laws.specs.DefinitionsText.{type_definitions}
+use Rattle.xd_type_laws.specs.DefinitionsText.{type_definitions, definitions_text}
 use Rattle.xd_syntax.specs.Shallow.{nesting_limit}
 use Rattle.xd_grammar.specs.declared.grammar.Nonterminal.TheVariants as n
 use Rattle.xd_grammar.specs.Text.{SpellsText}
@@ -58,9 +58,13 @@ pub record IsDefinition (d : List ℕ × Tree) : Type 0 where
   pub merged : IsMerged d.1
   pub proper : IsProperTree false d.1
 
+-- where none of the types is deeper than a text may be nested, the text spells them within the limit
+abbrev pub ReadsWithin : Definitions → Type 0
+ReadsWithin ds = AllByRecursion (λ d. depth d.1 ≤ nesting_limit) ds → SpellsText n.Definitions (definitions_text ds)
+
 -- definitions are read back, and so are those of a program's tables
 abbrev pub DefinitionsReadBack : Type 0
-DefinitionsReadBack = (ds : Definitions) → AllByRecursion IsDefinition ds → AreReadBack ds
+DefinitionsReadBack = (ds : Definitions) → AllByRecursion IsDefinition ds → AreReadBack ds × ReadsWithin ds
 
 abbrev pub KeptDefinitionsReadBack : Type 0
-KeptDefinitionsReadBack = (p : ProgramTable) → IsKept p → AreReadBack (type_definitions (program_tree p))
+KeptDefinitionsReadBack = (p : ProgramTable) → IsKept p → AreReadBack (type_definitions (program_tree p)) × ReadsWithin (type_definitions (program_tree p))
