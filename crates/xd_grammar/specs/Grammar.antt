@@ -29,8 +29,8 @@ abbrev pub rules : Nonterminal → List Row
 -- definitions  = { "type" word "=" alternative
 --              | "fun" word parameter { parameter } ":" alternative "=" expression } End
 rules n.Definitions =
-    (Token t.Type ∷ Token t.Word ∷ Token t.Equals
-    ∷ Part (n.Alternative sorts.Type) ∷ Part n.Definitions ∷ [])
+    (Token t.Type ∷ Token t.Word ∷ Token t.Equals ∷ Part (n.Alternative sorts.Type)
+    ∷ Part n.Definitions ∷ [])
     ∷ (Token t.Fun ∷ Token t.Word ∷ Part n.Param ∷ Part n.MoreParams ∷ Token t.Colon
     ∷ Part (n.Alternative sorts.Type) ∷ Token t.Equals ∷ Part n.Expr ∷ Part n.Definitions ∷ [])
     ∷ (Token t.End ∷ []) ∷ []
@@ -39,23 +39,19 @@ rules n.Param =
     (Opening t.ParenL ∷ Token t.Val ∷ Token t.Word ∷ Token t.As
     ∷ Part (n.Alternative sorts.Type) ∷ Token t.ParenR ∷ Closed ∷ []) ∷ []
 -- more parameters = { parameter }
-rules n.MoreParams =
-    (Unless t.ParenL ∷ [])
-    ∷ (Part n.Param ∷ Part n.MoreParams ∷ []) ∷ []
+rules n.MoreParams = (Unless t.ParenL ∷ []) ∷ (Part n.Param ∷ Part n.MoreParams ∷ []) ∷ []
 -- type text    = alternative End
 rules n.TypeText = (Part (n.Alternative sorts.Type) ∷ Token t.End ∷ []) ∷ []
 -- alternative  = sequence { "|" sequence }
 rules (n.Alternative s) = (Part (n.Sequence s) ∷ Part (n.MoreBranches s) ∷ []) ∷ []
 -- more branches = { "|" sequence }
 rules (n.MoreBranches s) =
-    (Token t.Bar ∷ Part (n.Sequence s) ∷ Part (n.MoreBranches s) ∷ [])
-    ∷ (Unless t.Bar ∷ []) ∷ []
+    (Token t.Bar ∷ Part (n.Sequence s) ∷ Part (n.MoreBranches s) ∷ []) ∷ (Unless t.Bar ∷ []) ∷ []
 -- sequence     = repetition { "," repetition }
 rules (n.Sequence s) = (Part (n.Post s) ∷ Part (n.MoreParts s) ∷ []) ∷ []
 -- more parts   = { "," repetition }
 rules (n.MoreParts s) =
-    (Token t.Comma ∷ Part (n.Post s) ∷ Part (n.MoreParts s) ∷ [])
-    ∷ (Unless t.Comma ∷ []) ∷ []
+    (Token t.Comma ∷ Part (n.Post s) ∷ Part (n.MoreParts s) ∷ []) ∷ (Unless t.Comma ∷ []) ∷ []
 -- repetition   = item [ "*" | "+" | "?" ]; in patterns also "val" word [ "as" repetition ]
 rules (n.Post sorts.Type) = (Part (n.Prim sorts.Type) ∷ Part n.Operator ∷ []) ∷ []
 rules (n.Post sorts.Pattern) =
@@ -63,21 +59,17 @@ rules (n.Post sorts.Pattern) =
     ∷ (Part (n.Prim sorts.Pattern) ∷ Part n.Operator ∷ []) ∷ []
 -- item         = word | "(" group | text | "^" excepted | class content
 rules (n.Prim s) =
-    (Token t.Word ∷ [])
-    ∷ (Opening t.ParenL ∷ Part (n.Group s) ∷ [])
-    ∷ (Token t.Text ∷ [])
-    ∷ (Token t.Caret ∷ Part (n.Excepted s) ∷ [])
-    ∷ (Part n.Class ∷ Part (n.Content s) ∷ []) ∷ []
+    (Token t.Word ∷ []) ∷ (Opening t.ParenL ∷ Part (n.Group s) ∷ []) ∷ (Token t.Text ∷ [])
+    ∷ (Token t.Caret ∷ Part (n.Excepted s) ∷ []) ∷ (Part n.Class ∷ Part (n.Content s) ∷ []) ∷ []
 -- excepted     = text | label "[" content | "(" excepted list
 rules (n.Excepted s) =
-    (Token t.Text ∷ [])
-    ∷ (Opening t.Label ∷ Part (n.Content s) ∷ [])
+    (Token t.Text ∷ []) ∷ (Opening t.Label ∷ Part (n.Content s) ∷ [])
     ∷ (Opening t.ParenL ∷ Part (n.ExceptedList s) ∷ []) ∷ []
 -- excepted list = text { "|" text } ")" | any word { "|" any word } ")" "[" content
 rules (n.ExceptedList s) =
     (Token t.Text ∷ Part n.MoreTexts ∷ Token t.ParenR ∷ Closed ∷ [])
-    ∷ (Part n.AnyWord ∷ Part n.MoreNames ∷ Token t.ParenR ∷ Closed
-    ∷ Opening t.BracketL ∷ Part (n.Content s) ∷ []) ∷ []
+    ∷ (Part n.AnyWord ∷ Part n.MoreNames ∷ Token t.ParenR ∷ Closed ∷ Opening t.BracketL
+    ∷ Part (n.Content s) ∷ []) ∷ []
 -- group        = ")" | alternative ")"; no "[" follows
 rules (n.Group s) =
     (Token t.ParenR ∷ Closed ∷ Unless t.BracketL ∷ [])
@@ -87,77 +79,55 @@ rules (n.Content s) =
     (Token t.BracketR ∷ Closed ∷ [])
     ∷ (Part (n.Alternative s) ∷ Token t.BracketR ∷ Closed ∷ []) ∷ []
 -- bound        = [ "as" repetition ]
-rules n.Bound =
-    (Opening t.As ∷ Part (n.Post sorts.Pattern) ∷ Closed ∷ [])
-    ∷ (Unless t.As ∷ []) ∷ []
+rules n.Bound = (Opening t.As ∷ Part (n.Post sorts.Pattern) ∷ Closed ∷ []) ∷ (Unless t.As ∷ []) ∷ []
 -- operator     = [ "*" | "+" | "?" ]
 rules n.Operator =
-    (Token t.Star ∷ [])
-    ∷ (Token t.Plus ∷ [])
-    ∷ (Token t.Query ∷ [])
+    (Token t.Star ∷ []) ∷ (Token t.Plus ∷ []) ∷ (Token t.Query ∷ [])
     ∷ (Unless t.Star ∷ Unless t.Plus ∷ Unless t.Query ∷ []) ∷ []
 -- class        = "~" "[" | labels
-rules n.Class =
-    (Token t.Tilde ∷ Opening t.BracketL ∷ [])
-    ∷ (Part n.Labels ∷ []) ∷ []
+rules n.Class = (Token t.Tilde ∷ Opening t.BracketL ∷ []) ∷ (Part n.Labels ∷ []) ∷ []
 -- labels       = label "[" | names "["
-rules n.Labels =
-    (Opening t.Label ∷ [])
-    ∷ (Part n.Names ∷ Opening t.BracketL ∷ []) ∷ []
+rules n.Labels = (Opening t.Label ∷ []) ∷ (Part n.Names ∷ Opening t.BracketL ∷ []) ∷ []
 -- names        = "(" any word { "|" any word } ")"
 rules n.Names =
     (Opening t.ParenL ∷ Part n.AnyWord ∷ Part n.MoreNames ∷ Token t.ParenR ∷ Closed ∷ []) ∷ []
 -- more names   = { "|" any word }
 rules n.MoreNames =
-    (Token t.Bar ∷ Part n.AnyWord ∷ Part n.MoreNames ∷ [])
-    ∷ (Unless t.Bar ∷ []) ∷ []
+    (Token t.Bar ∷ Part n.AnyWord ∷ Part n.MoreNames ∷ []) ∷ (Unless t.Bar ∷ []) ∷ []
 -- more texts   = { "|" text }
-rules n.MoreTexts =
-    (Token t.Bar ∷ Token t.Text ∷ Part n.MoreTexts ∷ [])
-    ∷ (Unless t.Bar ∷ []) ∷ []
+rules n.MoreTexts = (Token t.Bar ∷ Token t.Text ∷ Part n.MoreTexts ∷ []) ∷ (Unless t.Bar ∷ []) ∷ []
 -- any word     = word | "type" | "fun" | "val" | "as" | "match" | "with"
 rules n.AnyWord =
-    (Token t.Word ∷ [])
-    ∷ (Token t.Type ∷ [])
-    ∷ (Token t.Fun ∷ [])
-    ∷ (Token t.Val ∷ [])
-    ∷ (Token t.As ∷ [])
-    ∷ (Token t.Match ∷ [])
-    ∷ (Token t.With ∷ []) ∷ []
+    (Token t.Word ∷ []) ∷ (Token t.Type ∷ []) ∷ (Token t.Fun ∷ []) ∷ (Token t.Val ∷ [])
+    ∷ (Token t.As ∷ []) ∷ (Token t.Match ∷ []) ∷ (Token t.With ∷ []) ∷ []
 -- expression   = part { "," part }
 rules n.Expr = (Part n.Item ∷ Part n.MoreItems ∷ []) ∷ []
 -- more items   = { "," part }
 rules n.MoreItems =
-    (Token t.Comma ∷ Part n.Item ∷ Part n.MoreItems ∷ [])
-    ∷ (Unless t.Comma ∷ []) ∷ []
+    (Token t.Comma ∷ Part n.Item ∷ Part n.MoreItems ∷ []) ∷ (Unless t.Comma ∷ []) ∷ []
 -- part         = text | word { parentheses } | label "[" expression content
 --              | "match" expression "with" clause { "|" clause } | parentheses
 rules n.Item =
-    (Token t.Text ∷ [])
-    ∷ (Token t.Word ∷ Part n.MoreParens ∷ [])
+    (Token t.Text ∷ []) ∷ (Token t.Word ∷ Part n.MoreParens ∷ [])
     ∷ (Opening t.Label ∷ Part n.ExprContent ∷ [])
-    ∷ (Opening t.Match ∷ Part n.Expr ∷ Token t.With ∷ Part n.Clause ∷ Part n.MoreClauses ∷ Closed ∷ [])
+    ∷ (Opening t.Match ∷ Part n.Expr ∷ Token t.With ∷ Part n.Clause ∷ Part n.MoreClauses
+    ∷ Closed ∷ [])
     ∷ (Part n.Paren ∷ []) ∷ []
 -- expression content = "]" | expression "]"
 rules n.ExprContent =
-    (Token t.BracketR ∷ Closed ∷ [])
-    ∷ (Part n.Expr ∷ Token t.BracketR ∷ Closed ∷ []) ∷ []
+    (Token t.BracketR ∷ Closed ∷ []) ∷ (Part n.Expr ∷ Token t.BracketR ∷ Closed ∷ []) ∷ []
 -- parentheses  = "(" parentheses content
 rules n.Paren = (Opening t.ParenL ∷ Part n.ParenContent ∷ []) ∷ []
 -- parentheses content = ")" | expression ")"
 rules n.ParenContent =
-    (Token t.ParenR ∷ Closed ∷ [])
-    ∷ (Part n.Expr ∷ Token t.ParenR ∷ Closed ∷ []) ∷ []
+    (Token t.ParenR ∷ Closed ∷ []) ∷ (Part n.Expr ∷ Token t.ParenR ∷ Closed ∷ []) ∷ []
 -- more parentheses = { parentheses }
-rules n.MoreParens =
-    (Unless t.ParenL ∷ [])
-    ∷ (Part n.Paren ∷ Part n.MoreParens ∷ []) ∷ []
+rules n.MoreParens = (Unless t.ParenL ∷ []) ∷ (Part n.Paren ∷ Part n.MoreParens ∷ []) ∷ []
 -- clause       = sequence "->" expression
 rules n.Clause = (Part (n.Sequence sorts.Pattern) ∷ Token t.Arrow ∷ Part n.Expr ∷ []) ∷ []
 -- more clauses = { "|" clause }
 rules n.MoreClauses =
-    (Token t.Bar ∷ Part n.Clause ∷ Part n.MoreClauses ∷ [])
-    ∷ (Unless t.Bar ∷ []) ∷ []
+    (Token t.Bar ∷ Part n.Clause ∷ Part n.MoreClauses ∷ []) ∷ (Unless t.Bar ∷ []) ∷ []
 
 -- whether tokens are to spell a row to its end, or may break off anywhere
 pub data Extent : Type 0 where
@@ -177,7 +147,8 @@ pub data Derives (extent : Extent) (limit : ℕ) : ℕ → Row → List Terminal
   token : {depth : ℕ} {k : Terminal} {row : Row} {ts : List Terminal} →
       Derives extent limit depth row ts → Derives extent limit depth (Token k ∷ row) (k ∷ ts)
   opening : {depth : ℕ} {k : Terminal} {row : Row} {ts : List Terminal} → depth < limit →
-      Derives extent limit (suc depth) row ts → Derives extent limit depth (Opening k ∷ row) (k ∷ ts)
+      Derives extent limit (suc depth) row ts → Derives extent limit depth (Opening k ∷ row) (k
+      ∷ ts)
   closed : {depth : ℕ} {row : Row} {ts : List Terminal} →
       Derives extent limit depth row ts → Derives extent limit (suc depth) (Closed ∷ row) ts
   unless : {depth : ℕ} {j k : Terminal} {row : Row} {ts : List Terminal} → j ≢ k →
