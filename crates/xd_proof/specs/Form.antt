@@ -26,6 +26,7 @@ pub record GoalBlock (A : Type 0) : Type 0 where
   pub cases : List Case
 
 module _ {A : Type 0} where
+  -- the line that names a right that fits the empty document, if one is named
   abbrev pub empty_parts : Option ℕ → List (ProofLine A)
   empty_parts None = []
   empty_parts (Some n) = empty_part n ∷ []
