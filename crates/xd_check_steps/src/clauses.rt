@@ -155,6 +155,8 @@ fn own_patterns(
 }
 
 /// Brings the variables of a pattern into scope, the first one as the newest.
+///
+/// After `NoMemory` some of them may be in scope, before those that were.
 pub fn bring_in(givens: Vec<Given>, variables: &mut Variables) -> Result<(), NoMemory>
     ensures { OnOk result (variables.new ≡ given_variables givens.items ++ variables.old) }
 {
@@ -191,6 +193,8 @@ pub fn pass_on(
 }
 
 /// The same where a state was found if the clause is live. It is put after the others.
+///
+/// After `NoMemory` nothing is said of what was found so far.
 pub fn pass_found(
     pattern: NumberedPattern<'_>,
     found: Option<State>,

@@ -48,6 +48,8 @@ impl Findings {
 }
 
 /// Puts earlier matches and then this one before those that were met inside its scrutinee.
+///
+/// After `NoMemory` nothing is said of the list.
 pub fn meet_before(
     earlier: Vec<MetMatch>,
     found: MetMatch,

@@ -62,6 +62,8 @@ impl Finding {
 }
 
 /// Sorts lines by place, then by number; equal ones stay in their order.
+///
+/// After `NoMemory` nothing is said of their order.
 pub fn sort_lines(lines: &mut Vec<FoundLine>) -> Result<(), NoMemory>
     ensures { OnOk result (lines.new.items ≡ ordered found_precedes lines.old.items) }
 {

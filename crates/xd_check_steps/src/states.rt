@@ -36,6 +36,8 @@ fn one_text(alloc: Global, characters: &Text) -> Result<Words, NoMemory>
 }
 
 /// A state that accepts one text alone.
+///
+/// After `NoMemory` nothing is said of the automaton.
 pub fn text_state(alloc: Global, characters: &Text, auto: &mut Auto) -> Result<State, NoMemory>
     ensures belongs { IfOk result (IsState auto.new) }
     ensures accepts { IfOk result (λ state. (d : Document) → (accepts auto.new d state ≡ true) ↔ (d ≡ text characters.now empty)) }
@@ -50,6 +52,8 @@ pub fn text_state(alloc: Global, characters: &Text, auto: &mut Auto) -> Result<S
 }
 
 /// The state of a variable; where there is none of the name, one that accepts nothing.
+///
+/// After `NoMemory` nothing is said of the automaton.
 pub fn variable_state(
     variables: &Variables,
     name: &Label,
@@ -70,6 +74,8 @@ pub fn variable_state(
 }
 
 /// A state that accepts a document of each of these states, one after the other.
+///
+/// After `NoMemory` nothing is said of the automaton.
 pub fn join_states(states: Vec<State>, auto: &mut Auto) -> Result<State, NoMemory>
     requires { AllByRecursion (IsState auto.old) states.items }
     ensures belongs { IfOk result (IsState auto.new) }
@@ -85,6 +91,8 @@ pub fn join_states(states: Vec<State>, auto: &mut Auto) -> Result<State, NoMemor
 }
 
 /// A state that accepts what some of these states accept.
+///
+/// After `NoMemory` nothing is said of the automaton.
 pub fn unite_states(states: Vec<State>, auto: &mut Auto) -> Result<State, NoMemory>
     requires { AllByRecursion (IsState auto.old) states.items }
     ensures belongs { IfOk result (IsState auto.new) }

@@ -47,6 +47,8 @@ impl Variables {
     }
 
     /// One more variable, which hides older ones of its name.
+    ///
+    /// After `NoMemory` nothing is said of the variables.
     pub fn push(&mut self, variable: Variable) -> Result<(), NoMemory>
         ensures { OnOk result (self.new ≡ variable ∷ self.old) }
     {

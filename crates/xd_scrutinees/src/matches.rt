@@ -61,7 +61,7 @@ pub fn scrutinees(alloc: Global, checked: &Checked) -> Result<Vec<Scrutinee>, No
 
 /// The same with all states in one automaton, which had none yet.
 ///
-/// Fails only where memory is refused.
+/// Fails only where memory is refused. Nothing is said of the automaton then.
 pub fn met_matches(
     alloc: Global,
     checked: &Checked,

@@ -32,7 +32,7 @@ pub fn type_names(alloc: Global, sound: &SoundProgram) -> Result<Vec<Label>, NoM
 /// text.
 ///
 /// After `NoMemory` some of the lines may stand in `out`.
-pub fn write_definitions(
+pub(crate) fn write_definitions(
     alloc: Global,
     sound: &SoundProgram,
     out: &mut Vec<u8>,

@@ -6,5 +6,5 @@ mod definitions;
 mod shown;
 
 pub use blocks::variable_blocks;
-pub use definitions::{type_names, write_definitions};
+pub use definitions::type_names;
 pub use shown::shown_text;
