@@ -1,4 +1,4 @@
-//! Slow and short programs that compute the definitions, as yardsticks.
+//! Slow and short programs that compute the definitions: reference implementations.
 #![tactic(auto)]
 
 mod document;

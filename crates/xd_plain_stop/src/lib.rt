@@ -1,5 +1,5 @@
-//! Where bytes stop being the beginning of a document of a type, by trying each way to go on: slow,
-//! as a yardstick.
+//! Where bytes stop being the beginning of a document of a type, by trying each way to go on: a
+//! slow reference implementation.
 #![tactic(auto)]
 
 mod begun;
