@@ -1,6 +1,6 @@
 //! The tokens that are left.
 
-ghost use Rattle.std.specs.Prelude.{◌≡◌, ◌-◌, ◌<◌, ◌∷◌, [], false, true, take, length, IfOk};
+ghost use Rattle.std.specs.Prelude.{◌≡◌, ◌-◌, ◌<◌, ◌∷◌, [], false, true, take, length, IfOk, OnErr};
 ghost use Rattle.xd_lex.specs.LexedTokens.{is_last, lexeme_of};
 ghost use Rattle.xd_lex.specs.Spellings.{IsSpelling};
 ghost use Rattle.xd_lex.specs.Spelled.{unescaped};
@@ -136,12 +136,13 @@ impl<'a> Cursor<'a> {
     }
 
     /// Takes the next token as a word that is no keyword. Any other token, which no text has there
-    /// that spells, is taken as `_`. Fails only where memory is refused.
+    /// that spells, is taken as `_`. Fails only where memory is refused, and then takes none.
     pub fn word(&mut self, alloc: Global) -> Result<Word, NoMemory>
         ensures word { IfOk result (λ w. front_terminal self.old ≡ terminals.Word → w.word ≡ front_text self.old) }
         ensures place { IfOk result (λ w. w.place ≡ front_place self.old) }
         ensures plain { IfOk result (λ w. has_word keywords w.word ≡ false) }
         ensures left { IfOk result (λ w. self.new ≡ behind self.old) }
+        ensures kept { OnErr result (self.new ≡ self.old) }
     {
         let word = self.shared_label(alloc, self.word_text())?;
         let place = self.step();
@@ -210,11 +211,12 @@ impl<'a> Cursor<'a> {
     }
 
     /// Takes the next token as a label, without its bracket. Any other token, which no text has
-    /// there that spells, is taken as `_`. Fails only where memory is refused.
+    /// there that spells, is taken as `_`. Fails only where memory is refused, and then takes none.
     pub fn label(&mut self, alloc: Global) -> Result<Word, NoMemory>
         ensures word { IfOk result (λ w. front_terminal self.old ≡ terminals.Label → w.word ≡ take (length (front_text self.old) - 1) (front_text self.old)) }
         ensures place { IfOk result (λ w. w.place ≡ front_place self.old) }
         ensures left { IfOk result (λ w. self.new ≡ behind self.old) }
+        ensures kept { OnErr result (self.new ≡ self.old) }
     {
         let word = self.shared_label(alloc, self.label_text())?;
         let place = self.step();
@@ -236,11 +238,12 @@ impl<'a> Cursor<'a> {
     }
 
     /// Takes the next token as a quoted text. Any other token, which no text has there that spells,
-    /// is taken as an empty text. Fails only where memory is refused.
+    /// is taken as an empty text. Fails only where memory is refused, and then takes none.
     pub fn quoted(&mut self, alloc: Global) -> Result<Quoted, NoMemory>
         ensures text { IfOk result (λ q. front_terminal self.old ≡ terminals.Text → q.text ≡ unescaped (front_text self.old)) }
         ensures place { IfOk result (λ q. q.place ≡ front_place self.old) }
         ensures left { IfOk result (λ q. self.new ≡ behind self.old) }
+        ensures kept { OnErr result (self.new ≡ self.old) }
     {
         let text = self.unescaped_text(alloc)?;
         let place = self.step();
