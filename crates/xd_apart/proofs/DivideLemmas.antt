@@ -11,7 +11,7 @@ use Rattle.xd_auto.specs.declared.auto.TextMove.{TextMove}
 use Rattle.xd_auto.specs.declared.leading.Ends.{Ends}
 use Rattle.xd_auto.specs.Automaton.{Automaton, StateMoves, moves_at, no_moves, state_number, with_moves}
 use Rattle.xd_boole.proofs.ArePointsLemmas.{at_end}
-use Rattle.xd_apart.specs.Loose.{Adds, Divides, EndsBelow, HasMove, behind_to, copied, in_both, in_first, in_place, inside_to}
+use Rattle.xd_apart.specs.OverApproximation.{Adds, Divides, EndsBelow, HasMove, behind_to, copied, in_both, in_first, in_place, inside_to}
 
 first_or_later : {X : Type 0} (x v : X) (xs : List X) → Contains (x ∷ xs) v → Contains xs v ⊎ (v ≡ x)
 first_or_later x v xs (zero, c, e) = inr (sym e)

@@ -1,5 +1,5 @@
 pub mod ApartLemmas
-pub mod LooseLemmas
+pub mod OverApproximationLemmas
 pub mod DivideLemmas
 pub mod StepLemmas
 pub mod SearchLemmas

@@ -14,25 +14,25 @@ use Rattle.xd_doc.specs.LeastUpTo.{IsLeastUpTo}
 use Rattle.xd_least.specs.Least.{IsLeastOf, Knows, size_limit}
 use Rattle.xd_least.proofs.KnownLemmas.{stays_known}
 use Rattle.xd_least.proofs.SizeLemmas.{least_up_to}
-use Rattle.xd_apart.specs.declared.loose.Loose.{Loose}
+use Rattle.xd_apart.specs.declared.over_approximation.OverApproximation.{OverApproximation}
 use Rattle.xd_apart.specs.Apart.{IsApart}
-use Rattle.xd_apart.specs.Loose.{IsLooseOver, KeepsPoints, StandsFor, left_states}
+use Rattle.xd_apart.specs.OverApproximation.{IsOverApproximation, KeepsPoints, StandsFor, left_states}
 use Rattle.xd_apart.specs.Search.{KnowsLefts, Searches}
-use Rattle.xd_apart.proofs.LooseLemmas.{loose_accepts}
+use Rattle.xd_apart.proofs.OverApproximationLemmas.{approximation_accepts}
 use Rattle.xd_apart.proofs.StepLemmas.{left_count}
 
-extends_lefts : (l : Loose) → l.lefts ≤ length l.over → Extends (left_states l) l.over
+extends_lefts : (l : OverApproximation) → l.lefts ≤ length l.over → Extends (left_states l) l.over
 extends_lefts l within = record {
   states = λ s lt. omega (arith, lt, within, left_count l within);
   moves = λ s lt. sym (get_or-take l.lefts l.over (state_number s) _ (omega (arith, lt, left_count l within)));
 }
 
 -- what is known of the lefts is known of the whole automaton
-pub knows_over : (l : Loose) (ds : List Document) (known : List (Option LeastDocument)) → l.lefts ≤ length l.over → KnowsLefts l ds known → Knows l.over ds (take l.lefts known)
+pub knows_over : (l : OverApproximation) (ds : List Document) (known : List (Option LeastDocument)) → l.lefts ≤ length l.over → KnowsLefts l ds known → Knows l.over ds (take l.lefts known)
 knows_over l ds known within k = stays_known (take l.lefts known) (left_states l) l.over ds ds (extends_lefts l within) (Keeps-same ds) k.knows
 
 -- and it is still known where more was learnt after it
-pub knows_after : (l : Loose) (ds es : List Document) (known first after : List (Option LeastDocument)) → l.lefts ≤ length l.over → KnowsLefts l ds known → first ≡ take l.lefts known → Keeps ds es → length after ≡ length l.over → take (length first) after ≡ first → KnowsLefts l es after
+pub knows_after : (l : OverApproximation) (ds es : List Document) (known first after : List (Option LeastDocument)) → l.lefts ≤ length l.over → KnowsLefts l ds known → first ≡ take l.lefts known → Keeps ds es → length after ≡ length l.over → take (length first) after ≡ first → KnowsLefts l es after
 knows_after l ds es known first after within k is keeps all remembers =
     let count : length first ≡ l.lefts = ap length is ∙ length-take-le l.lefts known k.count in
     let same : take l.lefts after ≡ take l.lefts known = ap (λ (n : ℕ). take n after) (sym count) ∙ remembers ∙ is in
@@ -42,13 +42,13 @@ knows_after l ds es known first after within k is keeps all remembers =
     }
 
 -- the search begins
-pub searches_first : (a : Automaton) (left right start root : State) (l : Loose) (part : Automaton) (ds : List Document) (known : List (Option LeastDocument)) → IsLooseOver a l → left_states l ≡ part → ((d : Document) → accepts part d start ≡ accepts a d left)
+pub searches_first : (a : Automaton) (left right start root : State) (l : OverApproximation) (part : Automaton) (ds : List Document) (known : List (Option LeastDocument)) → IsOverApproximation a l → left_states l ≡ part → ((d : Document) → accepts part d start ≡ accepts a d left)
     → StandsFor l.points.items (less start (right ∷ [])) root → Knows part ds known → length known ≡ length part → Searches a left right root l ds known
-searches_first a left right start root l part ds known loose is same stands knows all =
-    let count : l.lefts ≡ length part = sym (left_count l loose.within) ∙ ap length is in
+searches_first a left right start root l part ds known approximation is same stands knows all =
+    let count : l.lefts ≡ length part = sym (left_count l approximation.within) ∙ ap length is in
     record {
       start = start;
-      loose = loose;
+      approximation = approximation;
       same = λ d. ap (λ (b : Automaton). accepts b d start) is ∙ same d;
       stands = stands;
       knows = record {
@@ -58,13 +58,13 @@ searches_first a left right start root l part ds known loose is same stands know
     }
 
 -- it goes on with a closer automaton over the same lefts
-pub searches_on : (a : Automaton) (left right root : State) (l m : Loose) (ds : List Document) (known : List (Option LeastDocument)) → Searches a left right root l ds known → IsLooseOver a m → left_states m ≡ left_states l → KeepsPoints l.points.items m.points.items
+pub searches_on : (a : Automaton) (left right root : State) (l m : OverApproximation) (ds : List Document) (known : List (Option LeastDocument)) → Searches a left right root l ds known → IsOverApproximation a m → left_states m ≡ left_states l → KeepsPoints l.points.items m.points.items
     → Searches a left right root m ds known
-searches_on a left right root l m ds known s loose is keeps =
-    let count : m.lefts ≡ l.lefts = sym (left_count m loose.within) ∙ ap length is ∙ left_count l s.loose.within in
+searches_on a left right root l m ds known s approximation is keeps =
+    let count : m.lefts ≡ l.lefts = sym (left_count m approximation.within) ∙ ap length is ∙ left_count l s.approximation.within in
     record {
       start = s.start;
-      loose = loose;
+      approximation = approximation;
       same = λ d. ap (λ (b : Automaton). accepts b d s.start) is ∙ s.same d;
       stands = record { there = omega (arith, s.stands.there, keeps.longer); is = keeps.same (state_number root) s.stands.there ∙ s.stands.is };
       knows = record {
@@ -74,14 +74,14 @@ searches_on a left right root l m ds known s loose is keeps =
     }
 
 -- and with what is known more
-pub searches_more : (a : Automaton) (left right root : State) (l : Loose) (ds es : List Document) (known after : List (Option LeastDocument)) → Searches a left right root l ds known → KnowsLefts l es after → Searches a left right root l es after
-searches_more a left right root l ds es known after s k = record { start = s.start; loose = s.loose; same = s.same; stands = s.stands; knows = k }
+pub searches_more : (a : Automaton) (left right root : State) (l : OverApproximation) (ds es : List Document) (known after : List (Option LeastDocument)) → Searches a left right root l ds known → KnowsLefts l es after → Searches a left right root l es after
+searches_more a left right root l ds es known after s k = record { start = s.start; approximation = s.approximation; same = s.same; stands = s.stands; knows = k }
 
-module _ (a : Automaton) (left right root : State) (l : Loose) (ds : List Document) (known : List (Option LeastDocument)) (s : Searches a left right root l ds known) where
+module _ (a : Automaton) (left right root : State) (l : OverApproximation) (ds : List Document) (known : List (Option LeastDocument)) (s : Searches a left right root l ds known) where
   -- the root accepts whatever separates the two
   pub root_accepts : (d : Document) → IsApart a left right d → accepts l.over d root ≡ true
   root_accepts d h =
-      loose_accepts (left_states l) a l.over l.points.items s.loose.loosens.loose d root s.stands.there
+      approximation_accepts (left_states l) a l.over l.points.items s.approximation.approximates.approximation d root s.stands.there
       (ap (λ (p : PointView). means (left_states l) a p d) s.stands.is ∙ rw (s.same d, h.accepted, h.refused) refl)
 
   -- so its least document, if it separates them, is a least one of these

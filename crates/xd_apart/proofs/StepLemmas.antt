@@ -1,4 +1,4 @@
--- How loose automata begin, get points, and are divided.
+-- How over-approximations begin, get points, and are divided.
 use Rattle.std.proofs.Common.{◌≡◌, ℕ, ◌<◌, ◌≤◌, Bool, true, false, ◌&&◌, inl, inr, Some, List, [], ◌∷◌, ◌++◌, get_or, length, length-append, take, refl, ap, sym, subst, ◌∙◌, arith}
 use Rattle.std.specs.Prelude.{not}
 use Rattle.std.specs.List.{AllByRecursion, Contains, list_any}
@@ -19,9 +19,9 @@ use Rattle.xd_auto.specs.Keys.{found_at}
 use Rattle.xd_boole.specs.Points.{IsPointOf, no_point, point_at, point_key, state_at}
 use Rattle.xd_boole.proofs.ArePointsLemmas.{at_end, same_point}
 use Rattle.xd_boole.proofs.AnyAcceptsLemmas.{set_accepts, with_states_all, any_accepts_push}
-use Rattle.xd_apart.specs.declared.loose.Loose.{Loose}
-use Rattle.xd_apart.specs.Loose.{Divides, First, Grows, IsCloser, IsKind, IsLoose, IsLooseOver, KeepsPoints, Loosens, Narrows, NarrowsEnds, StandsFor, copied, left_states}
-use Rattle.xd_apart.proofs.LooseLemmas.{added_loosens, added_points, copied_loose, divided_loose, exchanged_loosens}
+use Rattle.xd_apart.specs.declared.over_approximation.OverApproximation.{OverApproximation}
+use Rattle.xd_apart.specs.OverApproximation.{Divides, First, Grows, IsCloser, IsKind, ApproximatesPoint, IsOverApproximation, KeepsPoints, Approximates, Narrows, NarrowsEnds, StandsFor, copied, left_states}
+use Rattle.xd_apart.proofs.OverApproximationLemmas.{added_approximates, added_points, copied_approximation, divided_approximation, exchanged_approximates}
 
 with_no_rights : (moves : StateMoves) → moves ≡ copied (moves.last && true) moves
 with_no_rights moves = ap (λ (last : Bool). copied last moves) (and_with_true moves.last)
@@ -31,18 +31,18 @@ module _ (a b : Automaton) (points : List PointView) (closed : IsClosed a) (coun
   start_whole : (s : State) → IsState a s → point_at points (state_number s) ≡ less s []
   start_whole s lt = each (state_number s) lt
 
-  pub start_loosens : Loosens a b a points
-  start_loosens = record {
+  pub start_approximates : Approximates a b a points
+  start_approximates = record {
     count = sym count;
     lefts = omega (arith, count);
     closed = λ s lt. moves_at-closed a s closed lt;
     own = λ s lt. refl;
     whole = start_whole;
     there = λ i lt. subst (IsPointOf a b) (sym (each i (omega (arith, lt, count)))) (record { left = omega (arith, lt, count); rights = tt });
-    loose = λ i lt.
+    approximation = λ i lt.
         let there : IsState a (state_at i) = omega (arith, lt, count) in
-        subst (λ p. IsLoose a b points p (moves_at a (state_at i))) (sym (each i there))
-        (subst (IsLoose a b points (less (state_at i) [])) (sym (with_no_rights (moves_at a (state_at i)))) (copied_loose a b points (state_at i) (moves_at-closed a (state_at i) closed there) (omega (arith, count)) start_whole []));
+        subst (λ p. ApproximatesPoint a b points p (moves_at a (state_at i))) (sym (each i there))
+        (subst (ApproximatesPoint a b points (less (state_at i) [])) (sym (with_no_rights (moves_at a (state_at i)))) (copied_approximation a b points (state_at i) (moves_at-closed a (state_at i) closed there) (omega (arith, count)) start_whole []));
   }
 
 -- an empty map leads nowhere
@@ -61,7 +61,7 @@ narrows_by a b points p s made added stands is = record {
 }
 
 -- a state whose point has a right is none of the lefts
-pub right_is_new : (a b over : Automaton) (points : List PointView) (s r : State) → Loosens a b over points → Contains (point_at points (state_number s)).rights r → length a ≤ state_number s
+pub right_is_new : (a b over : Automaton) (points : List PointView) (s r : State) → Approximates a b over points → Contains (point_at points (state_number s)).rights r → length a ≤ state_number s
 right_is_new a b over points s r h c = elim (cases_lt (state_number s) (length a)) [
   | inl lt ↦ (let none = subst (λ (p : PointView). Contains p.rights r) (h.whole s lt) c in absurd (omega (arith, none.1)))
   | inr le ↦ le
@@ -71,24 +71,24 @@ right_is_new a b over points s r h c = elim (cases_lt (state_number s) (length a
 pub point_is : (points : List PointView) (i n : ℕ) (p : PointView) → n ≡ i → i < length points → p ≡ get_or points n p → p ≡ point_at points i
 point_is points i n p e lt at = at ∙ ap (λ (k : ℕ). get_or points k p) e ∙ get_or_default points i p no_point lt
 
-pub left_count : (l : Loose) → l.lefts ≤ length l.over → length (left_states l) ≡ l.lefts
+pub left_count : (l : OverApproximation) → l.lefts ≤ length l.over → length (left_states l) ≡ l.lefts
 left_count l within = length-take-le l.lefts l.over within
 
 -- a point was added, with a state that has the moves of its left
-module _ (b : Automaton) (l m : Loose) (left : State) (rights : List State) (number : ℕ) (h : IsLooseOver b l) (there : IsState (left_states l) left) (rights_there : AllByRecursion (IsState b) rights) (lefts : m.lefts ≡ l.lefts)
+module _ (b : Automaton) (l m : OverApproximation) (left : State) (rights : List State) (number : ℕ) (h : IsOverApproximation b l) (there : IsState (left_states l) left) (rights_there : AllByRecursion (IsState b) rights) (lefts : m.lefts ≡ l.lefts)
     (over : m.over ≡ l.over ++ copied ((moves_at l.over left).last && not (list_any (is_last_in b) rights)) (moves_at l.over left) ∷ []) (points : m.points.items ≡ l.points.items ++ less left rights ∷ []) (is_number : number ≡ length l.points.items)
     (put : (q : List ℕ) → found_at m.numbers q ≡ cond (pointwise nat_eq (point_key (less left rights)) q) (Some number) (found_at l.numbers q)) where
   same_lefts : left_states m ≡ left_states l
   same_lefts = ap (λ (n : ℕ). take n m.over) lefts ∙ ap (take l.lefts) over ∙ take-append-le l.lefts l.over (copied ((moves_at l.over left).last && not (list_any (is_last_in b) rights)) (moves_at l.over left) ∷ []) h.within
 
   over_left : m.over ≡ l.over ++ copied ((moves_at (left_states l) left).last && not (list_any (is_last_in b) rights)) (moves_at (left_states l) left) ∷ []
-  over_left = over ∙ ap (λ (v : StateMoves). l.over ++ copied (v.last && not (list_any (is_last_in b) rights)) v ∷ []) (h.loosens.own left there)
+  over_left = over ∙ ap (λ (v : StateMoves). l.over ++ copied (v.last && not (list_any (is_last_in b) rights)) v ∷ []) (h.approximates.own left there)
 
   added_only : (key : List ℕ) (i : ℕ) → found_at m.numbers key ≡ Some i → (i < length m.points.items) × (point_key (point_at m.points.items i) ≡ key)
   added_only key i at = go (pointwise nat_eq (point_key (less left rights)) key) refl (sym (put key) ∙ at)
     where
       keeps : KeepsPoints l.points.items m.points.items
-      keeps = added_points (left_states l) b l.over m.over l.points.items m.points.items left rights h.loosens there rights_there over_left points
+      keeps = added_points (left_states l) b l.over m.over l.points.items m.points.items left rights h.approximates there rights_there over_left points
 
       go : (t : Bool) → pointwise nat_eq (point_key (less left rights)) key ≡ t → cond t (Some number) (found_at l.numbers key) ≡ Some i → (i < length m.points.items) × (point_key (point_at m.points.items i) ≡ key)
       go true same e =
@@ -99,15 +99,15 @@ module _ (b : Automaton) (l m : Loose) (left : State) (rights : List State) (num
           )
       go false other e = let o = h.only key i e in (omega (arith, o.0, keeps.longer), ap point_key (keeps.same i o.0) ∙ o.1)
 
-  pub point_loose : IsLooseOver b m
-  point_loose = record {
+  pub point_approximation : IsOverApproximation b m
+  point_approximation = record {
     within = omega (arith, lefts, h.within, ap length over, length-append l.over (copied ((moves_at l.over left).last && not (list_any (is_last_in b) rights)) (moves_at l.over left) ∷ []));
-    loosens = subst (λ (a : Automaton). Loosens a b m.over m.points.items) (sym same_lefts) (added_loosens (left_states l) b l.over m.over l.points.items m.points.items left rights h.loosens there rights_there over_left points);
+    approximates = subst (λ (a : Automaton). Approximates a b m.over m.points.items) (sym same_lefts) (added_approximates (left_states l) b l.over m.over l.points.items m.points.items left rights h.approximates there rights_there over_left points);
     only = added_only;
   }
 
 -- what stands under the key of a point stands for it
-pub found_stands : (b : Automaton) (l : Loose) (p : PointView) (s : State) → IsLooseOver b l → found_at l.numbers (point_key p) ≡ Some (state_number s) → StandsFor l.points.items p s
+pub found_stands : (b : Automaton) (l : OverApproximation) (p : PointView) (s : State) → IsOverApproximation b l → found_at l.numbers (point_key p) ≡ Some (state_number s) → StandsFor l.points.items p s
 found_stands b l p s h at = let o = h.only (point_key p) (state_number s) at in record { there = o.0; is = same_point (point_at l.points.items (state_number s)) p o.1 }
 
 all_more : (P : State → Type 0) (states : List State) (s : State) → AllByRecursion P states → P s → AllByRecursion P (states ++ s ∷ [])
@@ -118,20 +118,20 @@ pub more_rights_there : (P : State → Type 0) (states : List State) (s : State)
 more_rights_there P states s h k = with_states_all P (states ++ s ∷ []) [] (all_more P states s h k) tt
 
 -- the lefts stay where a later state is exchanged
-pub lefts_stay : (b : Automaton) (l : Loose) (after : Automaton) (s : State) (moves : StateMoves) → IsLooseOver b l → length (left_states l) ≤ state_number s → after ≡ with_moves l.over s moves → take l.lefts after ≡ left_states l
+pub lefts_stay : (b : Automaton) (l : OverApproximation) (after : Automaton) (s : State) (moves : StateMoves) → IsOverApproximation b l → length (left_states l) ≤ state_number s → after ≡ with_moves l.over s moves → take l.lefts after ≡ left_states l
 lefts_stay b l after s moves h new is = ap (take l.lefts) is ∙ take-set-le l.lefts l.over (state_number s) moves (omega (arith, new, left_count l h.within))
 
--- with other moves, the automaton is loose over the same
-pub over_exchanged : (b : Automaton) (l : Loose) (after : Automaton) (s : State) (moves : StateMoves) → IsLooseOver b l → length (left_states l) ≤ state_number s → after ≡ with_moves l.over s moves → Loosens (left_states l) b after l.points.items → IsLooseOver b (record l { over = after })
-over_exchanged b l after s moves h new is loosens = record {
+-- with other moves, the automaton is an over-approximation of the same
+pub over_exchanged : (b : Automaton) (l : OverApproximation) (after : Automaton) (s : State) (moves : StateMoves) → IsOverApproximation b l → length (left_states l) ≤ state_number s → after ≡ with_moves l.over s moves → Approximates (left_states l) b after l.points.items → IsOverApproximation b (record l { over = after })
+over_exchanged b l after s moves h new is approximates = record {
   within = omega (arith, h.within, ap length is, length-set l.over (state_number s) moves);
-  loosens = subst (λ (a : Automaton). Loosens a b after l.points.items) (sym (lefts_stay b l after s moves h new is)) loosens;
+  approximates = subst (λ (a : Automaton). Approximates a b after l.points.items) (sym (lefts_stay b l after s moves h new is)) approximates;
   only = h.only;
 }
 
 -- a move is divided, after the points that its parts lead to
 module _ {M : Type 0} {has : M → List ℕ → Bool} {ends_of : M → Ends} {moves_in : StateMoves → List M} {exchanged : StateMoves → List M → StateMoves} {document : First → Document} (kind : IsKind has ends_of moves_in exchanged document)
-    (b : Automaton) (first second : Loose) (after : Automaton) (s : State) (number : ℕ) (w m : M) (by : Ends) (h : IsLooseOver b second) (one : Grows first second) (there : state_number s < length first.points.items)
+    (b : Automaton) (first second : OverApproximation) (after : Automaton) (s : State) (number : ℕ) (w m : M) (by : Ends) (h : IsOverApproximation b second) (one : Grows first second) (there : state_number s < length first.points.items)
     (r : State) (right : Contains (point_at first.points.items (state_number s)).rights r) (move : Contains (moves_in (moves_at b r)) m) (at : w ≡ get_or (moves_in (moves_at first.over s)) number w)
     (narrows : NarrowsEnds (left_states second) b second.points.items (ends_of w) by (ends_of m)) (divided : List M)
     (is : after ≡ with_moves second.over s (exchanged (moves_at second.over s) divided)) (divides : (x : M) → get_or (moves_in (moves_at second.over s)) number x ≡ x → Divides has ends_of x m by (moves_in (moves_at second.over s)) divided) where
@@ -139,7 +139,7 @@ module _ {M : Type 0} {has : M → List ℕ → Bool} {ends_of : M → Ends} {mo
   among_second = subst (λ (p : PointView). Contains p.rights r) (sym (one.points.same (state_number s) there)) right
 
   second_new : length (left_states second) ≤ state_number s
-  second_new = right_is_new (left_states second) b second.over second.points.items s r h.loosens among_second
+  second_new = right_is_new (left_states second) b second.over second.points.items s r h.approximates among_second
 
   second_there : state_number s < length second.points.items
   second_there = omega (arith, there, one.points.longer)
@@ -149,10 +149,10 @@ module _ {M : Type 0} {has : M → List ℕ → Bool} {ends_of : M → Ends} {mo
 
   pub divided_closer : IsCloser b first (record second { over = after })
   divided_closer = record {
-    loose = over_exchanged b second after s (exchanged (moves_at second.over s) divided) h second_new is
-        (exchanged_loosens (left_states second) b second.over after second.points.items s (exchanged (moves_at second.over s) divided) h.loosens second_new second_there is
-        (divided_loose kind (left_states second) b second.points.items (point_at second.points.items (state_number s)) r (moves_at second.over s) divided w m by among_second move divides_second narrows
-        (h.loosens.loose (state_number s) second_there)));
+    approximation = over_exchanged b second after s (exchanged (moves_at second.over s) divided) h second_new is
+        (exchanged_approximates (left_states second) b second.over after second.points.items s (exchanged (moves_at second.over s) divided) h.approximates second_new second_there is
+        (divided_approximation kind (left_states second) b second.points.items (point_at second.points.items (state_number s)) r (moves_at second.over s) divided w m by among_second move divides_second narrows
+        (h.approximates.approximation (state_number s) second_there)));
     lefts = lefts_stay b second after s (exchanged (moves_at second.over s) divided) h second_new is ∙ one.lefts;
     points = one.points;
   }

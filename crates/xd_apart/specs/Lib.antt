@@ -1,3 +1,3 @@
 pub mod Apart
-pub mod Loose
+pub mod OverApproximation
 pub mod Search

@@ -9,14 +9,14 @@ use Rattle.xd_boole.specs.Meaning.{less}
 use Rattle.xd_least.specs.declared.document.LeastDocument.{LeastDocument}
 use Rattle.xd_doc.specs.LeastUpTo.{IsLeastUpTo}
 use Rattle.xd_least.specs.Least.{Knows, size_limit}
-use Rattle.xd_apart.specs.declared.loose.Loose.{Loose}
+use Rattle.xd_apart.specs.declared.over_approximation.OverApproximation.{OverApproximation}
 use Rattle.xd_apart.specs.declared.search.Found.{Found}
 use Rattle.xd_apart.specs.declared.search.Found.TheVariants.{Least, NoneBelow, Nothing}
 use Rattle.xd_apart.specs.declared.search.Step.{Step}
 use Rattle.xd_apart.specs.declared.search.Step.TheVariants.{Down, Lost, Move}
 use Rattle.xd_apart.specs.declared.search.Taken.{Taken}
 use Rattle.xd_apart.specs.Apart.{IsApart}
-use Rattle.xd_apart.specs.Loose.{IsClashOf, IsLooseOver, StandsFor, left_states}
+use Rattle.xd_apart.specs.OverApproximation.{IsClashOf, IsOverApproximation, StandsFor, left_states}
 
 -- what a search found out: none is smaller than the bound, or the document is a least one
 abbrev pub IsFound : Automaton → State → State → (bound : ℕ) → List Document → Found → Type 0
@@ -25,7 +25,7 @@ IsFound a left right bound ds (Least seq) = BelongsTo ds seq × IsLeastUpTo size
 IsFound a left right bound ds Nothing = Unit {0}
 
 -- of each left state it is known what it accepts
-pub record KnowsLefts (l : Loose) (ds : List Document) (known : List (Option LeastDocument)) : Type 0 where
+pub record KnowsLefts (l : OverApproximation) (ds : List Document) (known : List (Option LeastDocument)) : Type 0 where
   pub count : l.lefts ≤ length known
   pub knows : Knows (left_states l) ds (take l.lefts known)
 
@@ -35,16 +35,16 @@ pub record IsTakenAt (a : Automaton) (ds : List Document) (t : Taken) : Type 0 w
   pub seq : BelongsTo ds t.seq
 
 -- where a document was wrongly taken: two moves of a kind clash, or a state below took what is there
-abbrev pub IsStep : Automaton → Loose → List Document → Step → Type 0
+abbrev pub IsStep : Automaton → OverApproximation → List Document → Step → Type 0
 IsStep b l ds (Move kind c) = IsClashOf kind b l c
 IsStep b l ds (Down t) = IsTakenAt l.over ds t
 IsStep b l ds Lost = Unit {0}
 
--- what holds in each round: the automaton is loose over the part that the left leads to and the
+-- what holds in each round: it is an over-approximation of the part that the left leads to and the
 -- whole, and its root stands for the left without the right
-pub record Searches (a : Automaton) (left right root : State) (l : Loose) (ds : List Document) (known : List (Option LeastDocument)) : Type 0 where
+pub record Searches (a : Automaton) (left right root : State) (l : OverApproximation) (ds : List Document) (known : List (Option LeastDocument)) : Type 0 where
   pub start : State
-  pub loose : IsLooseOver a l
+  pub approximation : IsOverApproximation a l
   pub same : (d : Document) → accepts (left_states l) d start ≡ accepts a d left
   pub stands : StandsFor l.points.items (less start (right ∷ [])) root
   pub knows : KnowsLefts l ds known

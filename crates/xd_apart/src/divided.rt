@@ -5,9 +5,9 @@ ghost use Rattle.std.specs.Option.{IfSome};
 ghost use Rattle.xd_doc.specs.Document.{Document};
 ghost use Rattle.xd_auto.specs.Automaton.{Automaton, IsState, StateMoves, moves_at, with_moves};
 ghost use Rattle.xd_auto.specs.Leading.{label_ends, text_ends};
-ghost use Rattle.xd_apart.specs.declared.loose.Clash.{Clash as ClashView};
-ghost use Rattle.xd_apart.specs.declared.loose.Loose.{Loose as LooseView};
-ghost use Rattle.xd_apart.specs.Loose.{AreBelow, EndsBelow, First as FirstView, IsClash, IsClashOf, IsKind, IsPartOf, behind_to, element_first, in_both, in_first, inside_to, label_kind, text_first, text_kind};
+ghost use Rattle.xd_apart.specs.declared.over_approximation.Clash.{Clash as ClashView};
+ghost use Rattle.xd_apart.specs.declared.over_approximation.OverApproximation.{OverApproximation as OverApproximationView};
+ghost use Rattle.xd_apart.specs.OverApproximation.{AreBelow, EndsBelow, First as FirstView, IsClash, IsClashOf, IsKind, IsPartOf, behind_to, element_first, in_both, in_first, inside_to, label_kind, text_first, text_kind};
 
 use std::alloc::Global;
 use xd_auto::{Auto, Ends, LabelMove, Leads, State, TextMove};
@@ -65,11 +65,11 @@ pub(crate) trait DividedMove: SharedMove {
         requires below { AreBelow Self.ends_of (length over.old) made.items }
         ensures { OnOk result (over.new ≡ with_moves over.old state (exchanged (moves_at over.old state) made.items)) };
 
-    /// Moves of its kind take what begins as their documents do, and stay loose where exchanged.
+    /// Moves of its kind take what begins as their documents do, and stay over-approximating where exchanged.
     ghost kind: { IsKind Self.has Self.ends_of Self.moves_in exchanged document };
 
     /// Two moves of its kind clash by that kind.
-    ghost clashes: { (b : Automaton) (l : LooseView) (c : ClashView) → IsClash Self.moves_in b l c → IsClashOf Self.KIND b l c };
+    ghost clashes: { (b : Automaton) (l : OverApproximationView) (c : ClashView) → IsClash Self.moves_in b l c → IsClashOf Self.KIND b l c };
 }
 
 impl SharedMove for LabelMove {

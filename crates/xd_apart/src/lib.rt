@@ -3,7 +3,7 @@
 
 mod apart;
 mod divided;
-mod loose;
+mod over_approximation;
 mod search;
 
 pub use apart::least_apart;

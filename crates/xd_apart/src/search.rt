@@ -11,17 +11,17 @@ ghost use Rattle.xd_boole.specs.Points.{point_at};
 ghost use Rattle.xd_least.specs.Least.{IsLeastOf};
 ghost use Rattle.xd_auto.specs.Kept.{AreRight};
 ghost use Rattle.xd_apart.specs.Apart.{IsApart};
-ghost use Rattle.xd_apart.specs.Loose.{EndsBelow, IsCloser, IsLooseOver};
+ghost use Rattle.xd_apart.specs.OverApproximation.{EndsBelow, IsCloser, IsOverApproximation};
 ghost use Rattle.xd_apart.specs.Search.{IsFound, IsStep, IsTakenAt, KnowsLefts};
 
 use crate::divided::{DividedMove, ends_at};
-use crate::loose::{Clash, Loose};
+use crate::over_approximation::{Clash, OverApproximation};
 use std::alloc::Global;
 use xd_auto::{Answers, Auto, Ends, LabelMove, MoveKind, State, TextMove, accepts_kept, trim};
 use xd_doc::{Item, NoMemory, Seq, Store};
 use xd_least::{LeastDocument, LeastInhabitants};
 
-/// How often a loose automaton is made closer at most.
+/// How often an over-approximation is made closer at most.
 const ROUNDS: usize = 1000;
 
 /// What a search found out about the documents that separate two states.
@@ -56,21 +56,21 @@ pub(crate) enum Step {
 /// The root's least document, by what is known of the lefts.
 fn candidate(
     alloc: Global,
-    loose: &Loose,
+    approximation: &OverApproximation,
     known: &mut LeastInhabitants,
     root: State,
     store: &mut Store,
 ) -> Result<Option<LeastDocument>, NoMemory>
-    requires within { loose.now.lefts ≤ length loose.now.over }
-    requires known { KnowsLefts loose.now store.old known.old }
-    requires root { IsState loose.now.over root }
-    ensures known { OnOk result (KnowsLefts loose.now store.new known.new) }
-    ensures least { IfOk result (λ found. IfSome found (IsLeastOf loose.now.over store.new root)) }
-    ensures none { result ≡ Ok None → (d : Document) → accepts loose.now.over d root ≡ false }
+    requires within { approximation.now.lefts ≤ length approximation.now.over }
+    requires known { KnowsLefts approximation.now store.old known.old }
+    requires root { IsState approximation.now.over root }
+    ensures known { OnOk result (KnowsLefts approximation.now store.new known.new) }
+    ensures least { IfOk result (λ found. IfSome found (IsLeastOf approximation.now.over store.new root)) }
+    ensures none { result ≡ Ok None → (d : Document) → accepts approximation.now.over d root ≡ false }
     ensures keeps { Keeps store.old store.new }
 {
-    known.forget_after(loose.lefts);
-    known.learn(alloc, &loose.over, store)?;
+    known.forget_after(approximation.lefts);
+    known.learn(alloc, &approximation.over, store)?;
     Ok(known.document(root))
 }
 
@@ -117,17 +117,17 @@ fn are_known(known: &LeastInhabitants, store: &Store, ends: Ends, seq: Seq) -> b
 
 /// The number of the move by which the state took the item of this name.
 fn move_over<M: DividedMove>(
-    loose: &Loose,
+    approximation: &OverApproximation,
     known: &LeastInhabitants,
     store: &Store,
     at: Taken,
     name: &M::Name,
 ) -> Option<usize>
-    requires state { IsState loose.now.over at.state }
+    requires state { IsState approximation.now.over at.state }
     requires seq { BelongsTo store.now at.seq }
-    ensures { IfSome result (λ number. number < length (M.moves_in (moves_at loose.now.over at.state))) }
+    ensures { IfSome result (λ number. number < length (M.moves_in (moves_at approximation.now.over at.state))) }
 {
-    let moves = M::moves(&loose.over, at.state);
+    let moves = M::moves(&approximation.over, at.state);
     for number in 0..moves.len() {
         let step = &moves[number];
         if step.takes(name) && are_known(known, store, step.ends(), at.seq) {
@@ -183,29 +183,35 @@ fn right_move<M: DividedMove>(
 }
 
 /// Whether the state is a right of the other one's point.
-fn has_right(loose: &Loose, state: State, right: State) -> bool
-    requires { state_number state < length loose.now.points.items }
+fn has_right(approximation: &OverApproximation, state: State, right: State) -> bool
+    requires { state_number state < length approximation.now.points.items }
 {
-    loose.points[state.number()].rights.contains(&right)
+    approximation.points[state.number()].rights.contains(&right)
 }
 
 /// The state that took what a right of its point accepts, of those that a move and a move of a right
 /// lead to.
-fn step_down(loose: &Loose, store: &Store, own: Ends, other: Ends, seq: Seq) -> Option<Taken>
-    requires own { EndsBelow (length loose.now.points.items) own }
-    requires count { length loose.now.over ≡ length loose.now.points.items }
+fn step_down(
+    approximation: &OverApproximation,
+    store: &Store,
+    own: Ends,
+    other: Ends,
+    seq: Seq,
+) -> Option<Taken>
+    requires own { EndsBelow (length approximation.now.points.items) own }
+    requires count { length approximation.now.over ≡ length approximation.now.points.items }
     requires seq { BelongsTo store.now seq }
-    ensures { IfSome result (IsTakenAt loose.now.over store.now) }
+    ensures { IfSome result (IsTakenAt approximation.now.over store.now) }
 {
     if let (Some(inside), Some(right)) = (own.inside, other.inside) {
-        if has_right(loose, inside, right) {
+        if has_right(approximation, inside, right) {
             return Some(Taken {
                 state: inside,
                 seq: store.content(seq),
             });
         }
     }
-    if has_right(loose, own.behind, other.behind) {
+    if has_right(approximation, own.behind, other.behind) {
         return Some(Taken {
             state: own.behind,
             seq: store.next(seq),
@@ -217,24 +223,24 @@ fn step_down(loose: &Loose, store: &Store, own: Ends, other: Ends, seq: Seq) -> 
 /// Where the item of this name was wrongly taken, if a right of the state's point accepts it.
 fn step_over<M: DividedMove>(
     auto: &Auto,
-    loose: &Loose,
+    approximation: &OverApproximation,
     known: &LeastInhabitants,
     store: &Store,
     answers: &mut Answers,
     at: Taken,
     name: &M::Name,
 ) -> Result<Step, NoMemory>
-    requires loose { IsLooseOver auto.now loose.now }
-    requires at { IsTakenAt loose.now.over store.now at }
+    requires approximation { IsOverApproximation auto.now approximation.now }
+    requires at { IsTakenAt approximation.now.over store.now at }
     requires answers { AreRight auto.now store.now answers.old }
-    ensures step { IfOk result (IsStep auto.now loose.now store.now) }
+    ensures step { IfOk result (IsStep auto.now approximation.now store.now) }
     ensures answers { AreRight auto.now store.now answers.new }
 {
-    let Some(number) = move_over::<M>(loose, known, store, at, name) else {
+    let Some(number) = move_over::<M>(approximation, known, store, at, name) else {
         return Ok(Step::Lost);
     };
-    let own = ends_at::<M>(&loose.over, at.state, number);
-    let point = &loose.points[at.state.number()];
+    let own = ends_at::<M>(&approximation.over, at.state, number);
+    let point = &approximation.points[at.state.number()];
     for right in &point.rights {
         let asked = Taken {
             state: *right,
@@ -242,7 +248,7 @@ fn step_over<M: DividedMove>(
         };
         if let Some(taken) = right_move::<M>(auto, store, answers, asked, name)? {
             let other = ends_at::<M>(auto, *right, taken);
-            if let Some(below) = step_down(loose, store, own, other, at.seq) {
+            if let Some(below) = step_down(approximation, store, own, other, at.seq) {
                 return Ok(Step::Down(below));
             }
             return Ok(Step::Move(
@@ -262,25 +268,25 @@ fn step_over<M: DividedMove>(
 /// Where the document was wrongly taken, if a right of the state's point accepts it.
 fn step_from(
     auto: &Auto,
-    loose: &Loose,
+    approximation: &OverApproximation,
     known: &LeastInhabitants,
     store: &Store,
     answers: &mut Answers,
     at: Taken,
 ) -> Result<Step, NoMemory>
-    requires loose { IsLooseOver auto.now loose.now }
-    requires at { IsTakenAt loose.now.over store.now at }
+    requires approximation { IsOverApproximation auto.now approximation.now }
+    requires at { IsTakenAt approximation.now.over store.now at }
     requires answers { AreRight auto.now store.now answers.old }
-    ensures step { IfOk result (IsStep auto.now loose.now store.now) }
+    ensures step { IfOk result (IsStep auto.now approximation.now store.now) }
     ensures answers { AreRight auto.now store.now answers.new }
 {
     match store.first(at.seq) {
         None => Ok(Step::Lost),
         Some(Item::Elem(label)) => {
-            step_over::<LabelMove>(auto, loose, known, store, answers, at, label)
+            step_over::<LabelMove>(auto, approximation, known, store, answers, at, label)
         }
         Some(Item::Text(text)) => {
-            step_over::<TextMove>(auto, loose, known, store, answers, at, text)
+            step_over::<TextMove>(auto, approximation, known, store, answers, at, text)
         }
     }
 }
@@ -290,19 +296,19 @@ fn step_from(
 fn clash_below(
     alloc: Global,
     auto: &Auto,
-    loose: &Loose,
+    approximation: &OverApproximation,
     known: &LeastInhabitants,
     store: &Store,
     at: Taken,
 ) -> Result<Step, NoMemory>
-    requires loose { IsLooseOver auto.now loose.now }
-    requires at { IsTakenAt loose.now.over store.now at }
-    ensures { IfOk result (IsStep auto.now loose.now store.now) }
+    requires approximation { IsOverApproximation auto.now approximation.now }
+    requires at { IsTakenAt approximation.now.over store.now at }
+    ensures { IfOk result (IsStep auto.now approximation.now store.now) }
 {
     let mut answers = Answers::new(alloc);
     let mut at = at;
     for _ in 0..store.len() {
-        match step_from(auto, loose, known, store, &mut answers, at)? {
+        match step_from(auto, approximation, known, store, &mut answers, at)? {
             Step::Down(below) => at = below,
             step => return Ok(step),
         }
@@ -315,22 +321,22 @@ fn clash_below(
 fn close_in(
     alloc: Global,
     auto: &Auto,
-    loose: &mut Loose,
+    approximation: &mut OverApproximation,
     known: &LeastInhabitants,
     store: &Store,
     at: Taken,
 ) -> Result<bool, NoMemory>
-    requires loose { IsLooseOver auto.now loose.old }
-    requires at { IsTakenAt loose.old.over store.now at }
-    ensures { OnOk result (IsCloser auto.now loose.old loose.new) }
+    requires approximation { IsOverApproximation auto.now approximation.old }
+    requires at { IsTakenAt approximation.old.over store.now at }
+    ensures { OnOk result (IsCloser auto.now approximation.old approximation.new) }
 {
-    match clash_below(alloc, auto, loose, known, store, at)? {
+    match clash_below(alloc, auto, approximation, known, store, at)? {
         Step::Move(MoveKind::Label, clash) => {
-            loose.divide::<LabelMove>(alloc, auto, clash)?;
+            approximation.divide::<LabelMove>(alloc, auto, clash)?;
             Ok(true)
         }
         Step::Move(MoveKind::Text, clash) => {
-            loose.divide::<TextMove>(alloc, auto, clash)?;
+            approximation.divide::<TextMove>(alloc, auto, clash)?;
             Ok(true)
         }
         Step::Down(_) | Step::Lost => Ok(false),
@@ -340,7 +346,7 @@ fn close_in(
 /// Searches for a least document of those that the left state accepts and the right one doesn't, of
 /// which there are some.
 ///
-/// A loose automaton accepts all of these, and at first all that the left accepts. If its least
+/// An over-approximation accepts all of these, and at first all that the left accepts. If its least
 /// document is one of them, it is a least one. Else it is made closer where it took this document,
 /// and asked again. (The method is that of counterexamples that guide a refinement: Clarke,
 /// Grumberg, Jha, Lu and Veith, *Counterexample-guided abstraction refinement*, CAV 2000.)
@@ -358,12 +364,12 @@ pub(crate) fn search(
     ensures { IfOk result (IsFound auto.now left right bound store.new) }
 {
     let (part, start) = trim(alloc, auto, left)?;
-    let mut loose = Loose::new(alloc, part)?;
+    let mut approximation = OverApproximation::new(alloc, part)?;
     let mut known = LeastInhabitants::new(alloc);
-    known.learn(alloc, &loose.over, store)?;
-    let root = loose.find_or_add(alloc, auto, start, &[right])?;
+    known.learn(alloc, &approximation.over, store)?;
+    let root = approximation.find_or_add(alloc, auto, start, &[right])?;
     for _ in 0..ROUNDS {
-        let Some(least) = candidate(alloc, &loose, &mut known, root, store)? else {
+        let Some(least) = candidate(alloc, &approximation, &mut known, root, store)? else {
             unreachable!()
         };
         if bound <= least.size {
@@ -376,7 +382,7 @@ pub(crate) fn search(
             state: root,
             seq: least.seq,
         };
-        if !close_in(alloc, auto, &mut loose, &known, store, at)? {
+        if !close_in(alloc, auto, &mut approximation, &known, store, at)? {
             return Ok(Found::Nothing);
         }
     }

@@ -12,7 +12,7 @@ pub mod HasMovesLemmas
 pub mod DifferenceLemmas
 pub mod MergeLemmas
 pub mod IsRedirectedLemmas
-pub mod TwinLemmas
+pub mod BisimilarLemmas
 pub mod ClassLemmas
 pub mod RefusalLemmas
 pub mod DisjointLemmas

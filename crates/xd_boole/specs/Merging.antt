@@ -41,8 +41,8 @@ pub record AreLike (a : Automaton) (same : List State) (c : Compared) : Type 0 w
   pub texts : AllZip (IsLikeText same c) (moves_at a c.one).texts (moves_at a c.other).texts
 
 -- they are like each other, or both accept everything
-abbrev pub AreTwins : Automaton → List State → Compared → Type 0
-AreTwins a same c = AreLike a same c ⊎ (AcceptsAll a c.one × AcceptsAll a c.other)
+abbrev pub AreBisimilar : Automaton → List State → Compared → Type 0
+AreBisimilar a same c = AreLike a same c ⊎ (AcceptsAll a c.one × AcceptsAll a c.other)
 
 -- a move that leads to the states that stand in for its own
 abbrev pub redirected : List State → LabelMove → LabelMove

@@ -2,6 +2,7 @@
 //! accept everything.
 #![tactic(auto)]
 
+mod bisimilar;
 mod choices;
 mod classes;
 mod disjoint;
@@ -12,9 +13,9 @@ mod refusals;
 mod states;
 mod step;
 mod taken;
-mod twins;
 mod universal;
 
+pub use bisimilar::merged_at;
 pub use choices::SideChoice;
 pub use classes::common_labels;
 pub use disjoint::near_moves;
@@ -24,5 +25,4 @@ pub use merging::merged;
 pub use refusals::{LabelRefusal, label_refusals};
 pub use states::{any_last, set_of};
 pub use taken::{Taken, taken_from};
-pub use twins::merged_at;
 pub use universal::{any_marked, is_marked, is_universal, universal_states, with_universal};

@@ -1,6 +1,6 @@
 use Rattle.std.proofs.Common.{◌≡◌, get_or, length, subst, sym}
 use Rattle.xd_auto.specs.Automaton.{moves_at}
-use Rattle.xd_apart.specs.Loose.{EndsBelow}
+use Rattle.xd_apart.specs.OverApproximation.{EndsBelow}
 use Rattle.xd_apart.proofs.DivideLemmas.{All-at}
 use Rattle.xd_apart.proofs.divided.ends_at.Goals as goal
 

@@ -4,6 +4,6 @@ use Rattle.xd_apart.proofs.search.clash_below.Given as goal
 
 abbrev pub invariant-loop : goal.invariant-loop
 invariant-loop l = record {
-  at : IsTakenAt l.loose.over l.store l.at;
+  at : IsTakenAt l.approximation.over l.store l.at;
   answers : AreRight l.auto' l.store l.answers;
 }

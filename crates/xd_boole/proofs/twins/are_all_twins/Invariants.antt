@@ -1,9 +1,0 @@
-use Rattle.std.proofs.Common.{◌<◌}
-use Rattle.xd_auto.specs.Automaton.{state_number}
-use Rattle.xd_auto.specs.declared.auto.State.{State}
-use Rattle.xd_boole.specs.Merging.{AreTwins}
-use Rattle.xd_boole.proofs.TwinLemmas.{as_compared}
-use Rattle.xd_boole.proofs.twins.are_all_twins.Given as goal
-
-abbrev pub invariant-loop-number : goal.invariant-loop-number
-invariant-loop-number l = (s : State) → state_number s < l.number → AreTwins l.auto' l.same (as_compared l.same s)
