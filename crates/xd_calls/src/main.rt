@@ -1,12 +1,12 @@
-//! Worked calls of the libraries: a desk for each kind of them.
+//! Worked calls of the libraries: a fixture for each kind of them.
 #![tactic(auto)]
 
-mod desk;
+mod fixture;
 
-use crate::desk::AnyDesk;
+use crate::fixture::AnyFixture;
 use anyhow::Result;
 use xd_calls_lines::run;
 
 fn main(rt: HostRuntime) -> Result<()> {
-    run::<AnyDesk>(&rt)
+    run::<AnyFixture>(&rt)
 }

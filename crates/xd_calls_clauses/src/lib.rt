@@ -2,8 +2,8 @@
 #![tactic(auto)]
 
 mod clauses;
-mod desk;
+mod fixture;
 mod patterns;
 mod tracks;
 
-pub use crate::desk::ClauseDesk;
+pub use crate::fixture::ClauseFixture;

@@ -3,7 +3,7 @@
 ghost use Rattle.std.specs.Prelude.{IfOk};
 ghost use Rattle.xd_doc.specs.StoredSeq.{BelongsTo};
 
-use crate::desk::DocumentDesk;
+use crate::fixture::DocumentFixture;
 use crate::named::document;
 use std::alloc::Global;
 use std::io::Write;
@@ -16,57 +16,65 @@ use xd_write::{write_document, write_text};
 /// `text_node NAME NEXT : TEXT`, `elem_node NAME LABEL CONTENT NEXT`, `append NAME FRONT BACK`,
 /// `join NAME ONE TWO THREE`, `first_before NAME DOC NEXT`, `copy_out NAME DOC`, which copies into
 /// a new store in place of the old one. `part START END : TEXT` writes a part of a text.
-pub fn store(desk: &mut DocumentDesk, call: &Call<'_>, out: &mut Vec<u8>) -> Result<(), CallError> {
+pub fn store(
+    fixture: &mut DocumentFixture,
+    call: &Call<'_>,
+    out: &mut Vec<u8>,
+) -> Result<(), CallError> {
     match call.name {
-        "read" => read(desk, call, out),
+        "read" => read(fixture, call, out),
         "write" => {
-            let seq = document_of(desk, call, 0)?;
-            Ok(write_document(call.alloc, &desk.store, seq, out)?)
+            let seq = document_of(fixture, call, 0)?;
+            Ok(write_document(call.alloc, &fixture.store, seq, out)?)
         }
-        "text_node" => text_node(desk, call, out),
-        "elem_node" => elem_node(desk, call, out),
-        "append" => append(desk, call, out),
-        "join" => join(desk, call, out),
-        "first_before" => first_before(desk, call, out),
-        "copy_out" => copy_out(desk, call, out),
+        "text_node" => text_node(fixture, call, out),
+        "elem_node" => elem_node(fixture, call, out),
+        "append" => append(fixture, call, out),
+        "join" => join(fixture, call, out),
+        "first_before" => first_before(fixture, call, out),
+        "copy_out" => copy_out(fixture, call, out),
         "part" => show_part(call, out),
         _ => Err(CallError::Call),
     }
 }
 
 /// The document that the call's word of this number names.
-pub fn document_of(desk: &DocumentDesk, call: &Call<'_>, number: usize) -> Result<Seq, CallError>
-    ensures { IfOk result (BelongsTo desk.now.store) }
+pub fn document_of(
+    fixture: &DocumentFixture,
+    call: &Call<'_>,
+    number: usize,
+) -> Result<Seq, CallError>
+    ensures { IfOk result (BelongsTo fixture.now.store) }
 {
-    document(&desk.store, &desk.documents, call.word(number)?)
+    document(&fixture.store, &fixture.documents, call.word(number)?)
 }
 
 /// The documents that the call's words of these numbers name.
 fn documents_of(
-    desk: &DocumentDesk,
+    fixture: &DocumentFixture,
     call: &Call<'_>,
     first: usize,
     second: usize,
 ) -> Result<(Seq, Seq), CallError>
-    ensures one { IfOk result (λ documents. BelongsTo desk.now.store documents.0) }
-    ensures two { IfOk result (λ documents. BelongsTo desk.now.store documents.1) }
+    ensures one { IfOk result (λ documents. BelongsTo fixture.now.store documents.0) }
+    ensures two { IfOk result (λ documents. BelongsTo fixture.now.store documents.1) }
 {
-    let one = document_of(desk, call, first)?;
-    let two = document_of(desk, call, second)?;
+    let one = document_of(fixture, call, first)?;
+    let two = document_of(fixture, call, second)?;
     Ok((one, two))
 }
 
 /// Gives the document the call's first word as a name, and shows it.
 fn give(
-    desk: &mut DocumentDesk,
+    fixture: &mut DocumentFixture,
     call: &Call<'_>,
     seq: Seq,
     out: &mut Vec<u8>,
 ) -> Result<(), CallError>
-    requires { BelongsTo desk.old.store seq }
+    requires { BelongsTo fixture.old.store seq }
 {
-    desk.documents.give(call.word(0)?, seq.place())?;
-    show(call.alloc, &desk.store, seq, out)
+    fixture.documents.give(call.word(0)?, seq.place())?;
+    show(call.alloc, &fixture.store, seq, out)
 }
 
 /// The document, after the number of the store's nodes.
@@ -77,9 +85,13 @@ fn show(alloc: Global, store: &Store, seq: Seq, out: &mut Vec<u8>) -> Result<(),
     Ok(write_document(alloc, store, seq, out)?)
 }
 
-fn read(desk: &mut DocumentDesk, call: &Call<'_>, out: &mut Vec<u8>) -> Result<(), CallError> {
-    match read_document(call.alloc, &mut desk.store, call.text.as_bytes()) {
-        Ok(seq) => give(desk, call, seq, out),
+fn read(
+    fixture: &mut DocumentFixture,
+    call: &Call<'_>,
+    out: &mut Vec<u8>,
+) -> Result<(), CallError> {
+    match read_document(call.alloc, &mut fixture.store, call.text.as_bytes()) {
+        Ok(seq) => give(fixture, call, seq, out),
         Err(ReadError::Malformed(place)) => {
             show_place(place, out)?;
             Ok(out.extend_from_slice(b" malformed\n")?)
@@ -88,50 +100,70 @@ fn read(desk: &mut DocumentDesk, call: &Call<'_>, out: &mut Vec<u8>) -> Result<(
     }
 }
 
-fn text_node(desk: &mut DocumentDesk, call: &Call<'_>, out: &mut Vec<u8>) -> Result<(), CallError> {
-    let next = document_of(desk, call, 1)?;
-    let text = Text::new(call.alloc, call.text)?;
-    let seq = desk.store.text_node(text, next)?;
-    give(desk, call, seq, out)
-}
-
-fn elem_node(desk: &mut DocumentDesk, call: &Call<'_>, out: &mut Vec<u8>) -> Result<(), CallError> {
-    let (content, next) = documents_of(desk, call, 2, 3)?;
-    let label = label(call.alloc, call.word(1)?)?;
-    let seq = desk.store.elem_node(label, content, next)?;
-    give(desk, call, seq, out)
-}
-
-fn append(desk: &mut DocumentDesk, call: &Call<'_>, out: &mut Vec<u8>) -> Result<(), CallError> {
-    let (front, back) = documents_of(desk, call, 1, 2)?;
-    let seq = desk.store.append(front, back)?;
-    give(desk, call, seq, out)
-}
-
-fn first_before(
-    desk: &mut DocumentDesk,
+fn text_node(
+    fixture: &mut DocumentFixture,
     call: &Call<'_>,
     out: &mut Vec<u8>,
 ) -> Result<(), CallError> {
-    let (seq, next) = documents_of(desk, call, 1, 2)?;
-    let seq = desk.store.first_before(seq, next)?;
-    give(desk, call, seq, out)
+    let next = document_of(fixture, call, 1)?;
+    let text = Text::new(call.alloc, call.text)?;
+    let seq = fixture.store.text_node(text, next)?;
+    give(fixture, call, seq, out)
+}
+
+fn elem_node(
+    fixture: &mut DocumentFixture,
+    call: &Call<'_>,
+    out: &mut Vec<u8>,
+) -> Result<(), CallError> {
+    let (content, next) = documents_of(fixture, call, 2, 3)?;
+    let label = label(call.alloc, call.word(1)?)?;
+    let seq = fixture.store.elem_node(label, content, next)?;
+    give(fixture, call, seq, out)
+}
+
+fn append(
+    fixture: &mut DocumentFixture,
+    call: &Call<'_>,
+    out: &mut Vec<u8>,
+) -> Result<(), CallError> {
+    let (front, back) = documents_of(fixture, call, 1, 2)?;
+    let seq = fixture.store.append(front, back)?;
+    give(fixture, call, seq, out)
+}
+
+fn first_before(
+    fixture: &mut DocumentFixture,
+    call: &Call<'_>,
+    out: &mut Vec<u8>,
+) -> Result<(), CallError> {
+    let (seq, next) = documents_of(fixture, call, 1, 2)?;
+    let seq = fixture.store.first_before(seq, next)?;
+    give(fixture, call, seq, out)
 }
 
 /// Three documents, joined.
-fn join(desk: &mut DocumentDesk, call: &Call<'_>, out: &mut Vec<u8>) -> Result<(), CallError> {
-    let (one, two) = documents_of(desk, call, 1, 2)?;
-    let three = document_of(desk, call, 3)?;
-    let seq = desk.store.join(&[one, two, three])?;
-    give(desk, call, seq, out)
+fn join(
+    fixture: &mut DocumentFixture,
+    call: &Call<'_>,
+    out: &mut Vec<u8>,
+) -> Result<(), CallError> {
+    let (one, two) = documents_of(fixture, call, 1, 2)?;
+    let three = document_of(fixture, call, 3)?;
+    let seq = fixture.store.join(&[one, two, three])?;
+    give(fixture, call, seq, out)
 }
 
-fn copy_out(desk: &mut DocumentDesk, call: &Call<'_>, out: &mut Vec<u8>) -> Result<(), CallError> {
-    let seq = document_of(desk, call, 1)?;
+fn copy_out(
+    fixture: &mut DocumentFixture,
+    call: &Call<'_>,
+    out: &mut Vec<u8>,
+) -> Result<(), CallError> {
+    let seq = document_of(fixture, call, 1)?;
     let mut store = Store::new(call.alloc);
-    let copy = desk.store.copy_out(call.alloc, seq, &mut store)?;
-    desk.store = store;
-    give(desk, call, copy, out)
+    let copy = fixture.store.copy_out(call.alloc, seq, &mut store)?;
+    fixture.store = store;
+    give(fixture, call, copy, out)
 }
 
 /// The part of the call's text between two bytes.

@@ -4,9 +4,9 @@
 
 mod automata;
 mod classes;
-mod desk;
 mod documents;
+mod fixture;
 mod named;
 mod reports;
 
-pub use crate::desk::DocumentDesk;
+pub use crate::fixture::DocumentFixture;

@@ -4,8 +4,8 @@ ghost use Rattle.std.specs.Prelude.{IfOk, List};
 ghost use Rattle.xd_doc.specs.Document.{Document};
 ghost use Rattle.xd_report.specs.Carries.{CarriesFrom};
 
-use crate::desk::DocumentDesk;
 use crate::documents::document_of;
+use crate::fixture::DocumentFixture;
 use xd_base::Place;
 use xd_calls_lines::{Call, CallError, label};
 use xd_doc::Text;
@@ -14,7 +14,11 @@ use xd_syntax::{Fault, FaultKind, Warning};
 
 /// `warning LINE COLUMN`, and lines of faults: `fault LINE COLUMN KIND`, with the document, the
 /// name or the numbers that the kind carries after it; LINE 0 for none.
-pub fn report(desk: &DocumentDesk, call: &Call<'_>, out: &mut Vec<u8>) -> Result<(), CallError> {
+pub fn report(
+    fixture: &DocumentFixture,
+    call: &Call<'_>,
+    out: &mut Vec<u8>,
+) -> Result<(), CallError> {
     match call.name {
         "warning" => {
             let place = place_of(call)?;
@@ -23,8 +27,8 @@ pub fn report(desk: &DocumentDesk, call: &Call<'_>, out: &mut Vec<u8>) -> Result
         "fault" => {
             let place = place_of(call)?;
             let place = if place.line > 0 { Some(place) } else { None };
-            let kind = kind_of(desk, call)?;
-            Ok(fault_line(call.alloc, &desk.store, &Fault { place, kind }, out)?)
+            let kind = kind_of(fixture, call)?;
+            Ok(fault_line(call.alloc, &fixture.store, &Fault { place, kind }, out)?)
         }
         _ => Err(CallError::Call),
     }
@@ -37,13 +41,13 @@ fn place_of(call: &Call<'_>) -> Result<Place, CallError> {
 }
 
 /// The kind of a fault, with the document that it carries.
-fn kind_of(desk: &DocumentDesk, call: &Call<'_>) -> Result<FaultKind, CallError>
-    ensures { IfOk result (CarriesFrom desk.now.store) }
+fn kind_of(fixture: &DocumentFixture, call: &Call<'_>) -> Result<FaultKind, CallError>
+    ensures { IfOk result (CarriesFrom fixture.now.store) }
 {
     match call.word(2)? {
-        "not_exhaustive" => Ok(FaultKind::NotExhaustive(document_of(desk, call, 3)?)),
-        "argument" => Ok(FaultKind::Argument(document_of(desk, call, 3)?)),
-        "result" => Ok(FaultKind::Result(document_of(desk, call, 3)?)),
+        "not_exhaustive" => Ok(FaultKind::NotExhaustive(document_of(fixture, call, 3)?)),
+        "argument" => Ok(FaultKind::Argument(document_of(fixture, call, 3)?)),
+        "result" => Ok(FaultKind::Result(document_of(fixture, call, 3)?)),
         word => kind_of_words(call, word),
     }
 }

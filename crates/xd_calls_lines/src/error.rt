@@ -12,8 +12,8 @@ use xd_read::ReadError;
 /// Why a line of the calls is refused.
 #[derive(Debug, Drop, Error)]
 pub enum CallError {
-    #[error("no desk is chosen")]
-    Desk,
+    #[error("no fixture is chosen")]
+    Fixture,
     #[error("no such call")]
     Call,
     #[error("a word is missing")]

@@ -8,7 +8,7 @@ mod spelled;
 
 pub use crate::call::Call;
 pub use crate::error::CallError;
-pub use crate::lines::{Desk, NamedDesk, run};
+pub use crate::lines::{Fixture, NamedFixture, run};
 pub use crate::spelled::{
     class, label, show_answer, show_answer_on, show_class, show_place, show_words, words,
 };

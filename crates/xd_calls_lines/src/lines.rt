@@ -8,14 +8,14 @@ use std::io;
 use std::io::Write;
 
 /// What the calls of a case are made at.
-pub trait Desk: Drop {
+pub trait Fixture: Drop {
     /// Makes a call, and appends what came.
     fn answer(&mut self, call: &Call<'_>, out: &mut Vec<u8>) -> Result<(), CallError>;
 }
 
-/// One of several desks, which lines of the input choose by their names.
-pub trait NamedDesk: Desk + Sized {
-    /// A new desk of this name.
+/// One of several fixtures, which lines of the input choose by their names.
+pub trait NamedFixture: Fixture + Sized {
+    /// A new fixture of this name.
     fn named(alloc: Global, name: &str) -> Result<Self, CallError>;
 }
 
@@ -60,35 +60,35 @@ fn add_line(text: &mut String, line: &str) -> Result<(), CallError> {
     Ok(())
 }
 
-/// What lines have said so far: the desk that was chosen, as it stands in this case, and the text
+/// What lines have said so far: the fixture that was chosen, as it stands in this case, and the text
 /// that the next call takes.
 #[derive(Drop)]
 struct Reading<'a, D> {
     alloc: Global,
     name: &'a str,
-    desk: Option<D>,
+    fixture: Option<D>,
     text: String,
 }
 
-impl<'a, D: NamedDesk> Reading<'a, D> {
+impl<'a, D: NamedFixture> Reading<'a, D> {
     fn new(alloc: Global) -> Reading<'a, D> {
         Reading {
             alloc,
             name: "",
-            desk: None,
+            fixture: None,
             text: String::new(alloc),
         }
     }
 
-    /// Chooses the desk for what comes after.
+    /// Chooses the fixture for what comes after.
     fn choose(&mut self, name: &'a str) -> Result<(), CallError> {
         self.name = name;
         self.begin_case()
     }
 
-    /// Begins with a new desk and no text.
+    /// Begins with a new fixture and no text.
     fn begin_case(&mut self) -> Result<(), CallError> {
-        self.desk = Some(D::named(self.alloc, self.name)?);
+        self.fixture = Some(D::named(self.alloc, self.name)?);
         self.text.clear();
         Ok(())
     }
@@ -96,13 +96,13 @@ impl<'a, D: NamedDesk> Reading<'a, D> {
     /// Makes the call of a line, which takes the text that was gathered and what stands after a
     /// colon, and appends what came.
     fn make_call(&mut self, line: &str, out: &mut Vec<u8>) -> Result<(), CallError> {
-        let Some(desk) = &mut self.desk else {
-            return Err(CallError::Desk);
+        let Some(fixture) = &mut self.fixture else {
+            return Err(CallError::Fixture);
         };
         let (head, behind) = line.split_once(" : ").unwrap_or((line, ""));
         self.text.push_str(behind)?;
         let mut came = Vec::new(self.alloc);
-        desk.answer(&Call::new(self.alloc, head, self.text.as_str()), &mut came)?;
+        fixture.answer(&Call::new(self.alloc, head, self.text.as_str()), &mut came)?;
         self.text.clear();
         show(&came, out)
     }
@@ -115,7 +115,7 @@ impl<'a, D: NamedDesk> Reading<'a, D> {
         if line.starts_with("|") || line.starts_with("*") {
             return gather(&mut self.text, line);
         }
-        if let Some(name) = line.strip_prefix("desk ") {
+        if let Some(name) = line.strip_prefix("fixture ") {
             return self.choose(name);
         }
         if line.starts_with("case ") {
@@ -126,7 +126,7 @@ impl<'a, D: NamedDesk> Reading<'a, D> {
 }
 
 /// The input with what came after each call.
-fn answered<D: NamedDesk>(alloc: Global, input: &str) -> Result<Vec<u8>> {
+fn answered<D: NamedFixture>(alloc: Global, input: &str) -> Result<Vec<u8>> {
     let mut out = Vec::new(alloc);
     let mut reading = Reading::<D>::new(alloc);
     for (number, line) in (1..u64::MAX).zip(input.lines()) {
@@ -139,7 +139,7 @@ fn answered<D: NamedDesk>(alloc: Global, input: &str) -> Result<Vec<u8>> {
 }
 
 /// Reads calls from the standard input, and writes them again with what came after each.
-pub fn run<D: NamedDesk>(rt: &(impl Input + Print + AllocGlobal)) -> Result<()> {
+pub fn run<D: NamedFixture>(rt: &(impl Input + Print + AllocGlobal)) -> Result<()> {
     let input = io::read_to_string(rt.alloc(), rt.reader())?;
     let out = answered::<D>(rt.alloc(), input.as_str())?;
     io::writer(rt).write_all(&out)?;

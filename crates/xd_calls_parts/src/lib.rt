@@ -2,9 +2,9 @@
 //! states.
 #![tactic(auto)]
 
-mod desk;
+mod fixture;
 mod pool;
 mod solved;
 mod states;
 
-pub use crate::desk::PartDesk;
+pub use crate::fixture::PartFixture;

@@ -43,22 +43,22 @@ impl Question {
 /// that was read last; `ways` and `first`, for the pattern of the first clause; `meaning CALLS`,
 /// the value of the program. `value CALLS`: that of the first function's body, where it has no
 /// variables.
-pub fn plain(desk: &Programs, call: &Call<'_>, out: &mut Vec<u8>) -> Result<(), CallError> {
-    let program = sound_program(desk)?;
-    show_asked(desk, call, &program, out)
+pub fn plain(fixture: &Programs, call: &Call<'_>, out: &mut Vec<u8>) -> Result<(), CallError> {
+    let program = sound_program(fixture)?;
+    show_asked(fixture, call, &program, out)
 }
 
-fn sound_program(desk: &Programs) -> Result<PlainProgram, CallError>
+fn sound_program(fixture: &Programs) -> Result<PlainProgram, CallError>
     ensures { IfOk result AnyIsFirst }
 {
-    match &desk.sound {
-        Some(sound) => plain_program(desk.alloc, sound.program()),
+    match &fixture.sound {
+        Some(sound) => plain_program(fixture.alloc, sound.program()),
         None => Err(CallError::Unknown),
     }
 }
 
 fn show_asked(
-    desk: &Programs,
+    fixture: &Programs,
     call: &Call<'_>,
     program: &PlainProgram,
     out: &mut Vec<u8>,
@@ -70,14 +70,14 @@ fn show_asked(
     }
     let question = Question::of_name(call.name)?;
     for line in call.text.lines() {
-        show_on(desk, call, question, program, line, out)?;
+        show_on(fixture, call, question, program, line, out)?;
     }
     Ok(())
 }
 
 /// What is asked about the document that a line spells.
 fn show_on(
-    desk: &Programs,
+    fixture: &Programs,
     call: &Call<'_>,
     question: Question,
     program: &PlainProgram,
@@ -87,11 +87,11 @@ fn show_on(
     requires { AnyIsFirst program.now }
 {
     let document = plain_document(call.alloc, line)?;
-    show_about(desk, call, question, program, &document, line, out)
+    show_about(fixture, call, question, program, &document, line, out)
 }
 
 fn show_about(
-    desk: &Programs,
+    fixture: &Programs,
     call: &Call<'_>,
     question: Question,
     program: &PlainProgram,
@@ -102,7 +102,7 @@ fn show_about(
     requires { AnyIsFirst program.now }
 {
     match question {
-        Question::Fits => show_answer_on(is_fitting(desk, program, document)?, line, out),
+        Question::Fits => show_answer_on(is_fitting(fixture, program, document)?, line, out),
         Question::Ways => show_ways(call.alloc, program, document, out),
         Question::First => show_first(call.alloc, program, document, out),
         Question::Meaning => show_meaning(call, program, document, out),
@@ -130,12 +130,12 @@ fn show_meaning(
     show_valued(meaning(call.alloc, program, MANY, calls, document), out)
 }
 
-fn newest_type(desk: &Programs) -> Result<PlainTree, CallError> {
-    let newest = desk.newest.ok_or(CallError::Unknown)?;
-    if newest.at() >= desk.types.len() {
+fn newest_type(fixture: &Programs) -> Result<PlainTree, CallError> {
+    let newest = fixture.newest.ok_or(CallError::Unknown)?;
+    if newest.at() >= fixture.types.len() {
         return Err(CallError::Unknown);
     }
-    plain_tree(desk.alloc, &desk.types, newest)
+    plain_tree(fixture.alloc, &fixture.types, newest)
 }
 
 /// The body of the first function.
@@ -163,12 +163,12 @@ fn pattern_of(clauses: &PlainClauses) -> Result<&PlainTree, CallError> {
 
 /// Whether the document fits the type that was read last.
 fn is_fitting(
-    desk: &Programs,
+    fixture: &Programs,
     program: &PlainProgram,
     document: &PlainDocument,
 ) -> Result<bool, CallError> {
-    let tree = newest_type(desk)?;
-    Ok(fits_within(desk.alloc, &program.definitions, MANY, &tree, document)?)
+    let tree = newest_type(fixture)?;
+    Ok(fits_within(fixture.alloc, &program.definitions, MANY, &tree, document)?)
 }
 
 fn show_ways(

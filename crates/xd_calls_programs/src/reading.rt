@@ -72,14 +72,14 @@ pub fn show_type_line(types: &Types, id: TypeId, out: &mut Vec<u8>) -> Result<()
 
 /// Reads a program, and shows it or where it is refused.
 pub fn show_read_program(
-    desk: &mut Programs,
+    fixture: &mut Programs,
     text: &str,
     out: &mut Vec<u8>,
 ) -> Result<(), CallError> {
-    match parse_program(desk.alloc, text.as_bytes()) {
+    match parse_program(fixture.alloc, text.as_bytes()) {
         Ok(program) => {
             show_program(out, &program)?;
-            desk.program = Some(program);
+            fixture.program = Some(program);
             Ok(())
         }
         Err(error) => show_refusal(error, out),
@@ -88,13 +88,13 @@ pub fn show_read_program(
 
 /// Reads a type into the table, or shows where it is refused.
 pub fn read_type_into(
-    desk: &mut Programs,
+    fixture: &mut Programs,
     text: &str,
     out: &mut Vec<u8>,
 ) -> Result<Option<TypeId>, CallError> {
-    match parse_type(desk.alloc, &mut desk.types, text.as_bytes()) {
+    match parse_type(fixture.alloc, &mut fixture.types, text.as_bytes()) {
         Ok(id) => {
-            desk.newest = Some(id);
+            fixture.newest = Some(id);
             Ok(Some(id))
         }
         Err(error) => {
@@ -105,30 +105,34 @@ pub fn read_type_into(
 }
 
 /// Reads a type into the table, and shows it or where it is refused.
-pub fn show_read_type(desk: &mut Programs, text: &str, out: &mut Vec<u8>) -> Result<(), CallError> {
-    match read_type_into(desk, text, out)? {
-        Some(id) => show_type_line(&desk.types, id, out),
+pub fn show_read_type(
+    fixture: &mut Programs,
+    text: &str,
+    out: &mut Vec<u8>,
+) -> Result<(), CallError> {
+    match read_type_into(fixture, text, out)? {
+        Some(id) => show_type_line(&fixture.types, id, out),
         None => Ok(()),
     }
 }
 
 /// Shows the faults of names of the program that was read last.
-pub fn show_resolved(desk: &Programs, out: &mut Vec<u8>) -> Result<(), CallError> {
-    let program = desk.program.as_ref().ok_or(CallError::Unknown)?;
-    let faults = resolve(desk.alloc, program)?;
+pub fn show_resolved(fixture: &Programs, out: &mut Vec<u8>) -> Result<(), CallError> {
+    let program = fixture.program.as_ref().ok_or(CallError::Unknown)?;
+    let faults = resolve(fixture.alloc, program)?;
     writeln!(out, "{} faults", faults.len())?;
     show_faults(&faults, out)
 }
 
 /// Makes a sound program of the one that was read last, or shows its faults.
-pub fn show_soundness(desk: &mut Programs, out: &mut Vec<u8>) -> Result<(), CallError> {
-    let program = desk.program.take().ok_or(CallError::Unknown)?;
-    if !resolve(desk.alloc, &program)?.is_empty() {
+pub fn show_soundness(fixture: &mut Programs, out: &mut Vec<u8>) -> Result<(), CallError> {
+    let program = fixture.program.take().ok_or(CallError::Unknown)?;
+    if !resolve(fixture.alloc, &program)?.is_empty() {
         return Err(CallError::Malformed);
     }
-    match well_formed(desk.alloc, program)? {
+    match well_formed(fixture.alloc, program)? {
         Soundness::Sound(sound) => {
-            desk.sound = Some(sound);
+            fixture.sound = Some(sound);
             out.extend_from_slice(b"sound\n")?;
             Ok(())
         }

@@ -1,8 +1,8 @@
 //! Calls that make proofs of inclusions.
 #![tactic(auto)]
 
-mod desk;
+mod fixture;
 mod made;
 mod states;
 
-pub use crate::desk::ProofDesk;
+pub use crate::fixture::ProofFixture;

@@ -1,11 +1,11 @@
 //! Calls about types, their states and the inclusion of these.
 #![tactic(auto)]
 
-mod desk;
+mod fixture;
 mod inclusions;
 mod named;
 mod states;
 mod streams;
 mod types;
 
-pub use crate::desk::StateDesk;
+pub use crate::fixture::StateFixture;

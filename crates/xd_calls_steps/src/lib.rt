@@ -2,8 +2,8 @@
 //! them.
 #![tactic(auto)]
 
-mod desk;
+mod fixture;
 mod loads;
 mod outputs;
 
-pub use crate::desk::StepDesk;
+pub use crate::fixture::StepFixture;

@@ -2,13 +2,13 @@
 //! pieces.
 #![tactic(auto)]
 
-mod desk;
+mod fixture;
 mod stops;
 
-use crate::desk::StopDesk;
+use crate::fixture::StopFixture;
 use anyhow::Result;
 use xd_calls_lines::run;
 
 fn main(rt: HostRuntime) -> Result<()> {
-    run::<StopDesk>(&rt)
+    run::<StopFixture>(&rt)
 }

@@ -1,10 +1,10 @@
 //! Calls about what programs are read from and read into: texts, tokens, names, programs and types.
 #![tactic(auto)]
 
-mod desk;
+mod fixture;
 mod lexing;
 mod naming;
 mod outside;
 mod programs;
 
-pub use crate::desk::ProgramDesk;
+pub use crate::fixture::ProgramFixture;

@@ -12,15 +12,19 @@ use xd_syntax::{Program, Types};
 /// `parse_program`, `resolve` and `well_formed` of the program that was read last, and about the
 /// sound one that came of it `find_type NAME`, `find_in_copy NAME`, in a copy of it, and `adopt`,
 /// of the type that was read last. `copy` shows a copy of the program that was read last.
-pub fn program(desk: &mut Programs, call: &Call<'_>, out: &mut Vec<u8>) -> Result<(), CallError> {
+pub fn program(
+    fixture: &mut Programs,
+    call: &Call<'_>,
+    out: &mut Vec<u8>,
+) -> Result<(), CallError> {
     match call.name {
-        "parse_program" => show_read_program(desk, call.text, out),
-        "copy" => show_copy(desk, out),
-        "resolve" => show_resolved(desk, out),
-        "well_formed" => show_soundness(desk, out),
-        "find_type" => find_type(desk, call.word(0)?, out),
-        "find_in_copy" => find_in_copy(desk, call.word(0)?, out),
-        "adopt" => adopt(desk, out),
+        "parse_program" => show_read_program(fixture, call.text, out),
+        "copy" => show_copy(fixture, out),
+        "resolve" => show_resolved(fixture, out),
+        "well_formed" => show_soundness(fixture, out),
+        "find_type" => find_type(fixture, call.word(0)?, out),
+        "find_in_copy" => find_in_copy(fixture, call.word(0)?, out),
+        "adopt" => adopt(fixture, out),
         _ => Err(CallError::Call),
     }
 }
@@ -28,42 +32,42 @@ pub fn program(desk: &mut Programs, call: &Call<'_>, out: &mut Vec<u8>) -> Resul
 /// `parse_type` of its text, into a table beside the program, and `count`, which shows the number
 /// of the table's nodes after that; `copy` shows the type that was read last, in a copy of the
 /// table.
-pub fn types(desk: &mut Programs, call: &Call<'_>, out: &mut Vec<u8>) -> Result<(), CallError> {
+pub fn types(fixture: &mut Programs, call: &Call<'_>, out: &mut Vec<u8>) -> Result<(), CallError> {
     match call.name {
-        "parse_type" => show_read_type(desk, call.text, out),
-        "copy" => show_type_in_copy(desk, out),
-        "count" => count_nodes(desk, call.text, out),
+        "parse_type" => show_read_type(fixture, call.text, out),
+        "copy" => show_type_in_copy(fixture, out),
+        "count" => count_nodes(fixture, call.text, out),
         _ => Err(CallError::Call),
     }
 }
 
-fn count_nodes(desk: &mut Programs, text: &str, out: &mut Vec<u8>) -> Result<(), CallError> {
-    if read_type_into(desk, text, out)?.is_some() {
-        writeln!(out, "{} nodes", desk.types.len())?;
+fn count_nodes(fixture: &mut Programs, text: &str, out: &mut Vec<u8>) -> Result<(), CallError> {
+    if read_type_into(fixture, text, out)?.is_some() {
+        writeln!(out, "{} nodes", fixture.types.len())?;
     }
     Ok(())
 }
 
-fn show_copy(desk: &Programs, out: &mut Vec<u8>) -> Result<(), CallError> {
-    let program = desk.program.as_ref().ok_or(CallError::Unknown)?;
-    let copy: Program = program.copy(desk.alloc)?;
+fn show_copy(fixture: &Programs, out: &mut Vec<u8>) -> Result<(), CallError> {
+    let program = fixture.program.as_ref().ok_or(CallError::Unknown)?;
+    let copy: Program = program.copy(fixture.alloc)?;
     show_program(out, &copy)
 }
 
-fn show_type_in_copy(desk: &Programs, out: &mut Vec<u8>) -> Result<(), CallError> {
-    let newest = desk.newest.ok_or(CallError::Unknown)?;
-    let copy: Types = desk.types.copy(desk.alloc)?;
+fn show_type_in_copy(fixture: &Programs, out: &mut Vec<u8>) -> Result<(), CallError> {
+    let newest = fixture.newest.ok_or(CallError::Unknown)?;
+    let copy: Types = fixture.types.copy(fixture.alloc)?;
     show_type_line(&copy, newest, out)
 }
 
-fn find_type(desk: &mut Programs, word: &str, out: &mut Vec<u8>) -> Result<(), CallError> {
-    let sound = desk.sound.as_mut().ok_or(CallError::Unknown)?;
+fn find_type(fixture: &mut Programs, word: &str, out: &mut Vec<u8>) -> Result<(), CallError> {
+    let sound = fixture.sound.as_mut().ok_or(CallError::Unknown)?;
     show_found(sound, word, out)
 }
 
-fn find_in_copy(desk: &Programs, word: &str, out: &mut Vec<u8>) -> Result<(), CallError> {
-    let sound = desk.sound.as_ref().ok_or(CallError::Unknown)?;
-    let mut copy = sound.copy(desk.alloc)?;
+fn find_in_copy(fixture: &Programs, word: &str, out: &mut Vec<u8>) -> Result<(), CallError> {
+    let sound = fixture.sound.as_ref().ok_or(CallError::Unknown)?;
+    let mut copy = sound.copy(fixture.alloc)?;
     show_found(&mut copy, word, out)
 }
 
@@ -78,14 +82,14 @@ fn show_found(sound: &mut SoundProgram, word: &str, out: &mut Vec<u8>) -> Result
     }
 }
 
-fn adopt(desk: &mut Programs, out: &mut Vec<u8>) -> Result<(), CallError> {
-    let sound = desk.sound.as_mut().ok_or(CallError::Unknown)?;
-    let newest = desk.newest.ok_or(CallError::Unknown)?;
-    if newest.at() >= desk.types.len() {
+fn adopt(fixture: &mut Programs, out: &mut Vec<u8>) -> Result<(), CallError> {
+    let sound = fixture.sound.as_mut().ok_or(CallError::Unknown)?;
+    let newest = fixture.newest.ok_or(CallError::Unknown)?;
+    if newest.at() >= fixture.types.len() {
         return Err(CallError::Unknown);
     }
     let before = sound.program().types().len();
-    match sound.adopt(&desk.types, newest)? {
+    match sound.adopt(&fixture.types, newest)? {
         Some(id) => {
             let after = sound.program().types().len();
             write!(out, "{} more nodes: ", after.saturating_sub(before))?;

@@ -1,7 +1,7 @@
 //! Calls about what a program that the check accepts means on documents.
 #![tactic(auto)]
 
-mod desk;
+mod fixture;
 mod values;
 
-pub use crate::desk::ValueDesk;
+pub use crate::fixture::ValueFixture;

@@ -3,4 +3,4 @@ use Rattle.xd_auto.specs.Automaton.{IsState}
 use Rattle.xd_calls_documents.proofs.automata.unite.Given as goal
 
 abbrev pub invariant-loop-name : goal.invariant-loop-name
-invariant-loop-name l = AllByRecursion (IsState l.desk.auto) l.states.items
+invariant-loop-name l = AllByRecursion (IsState l.fixture.auto) l.states.items

@@ -3,25 +3,25 @@
 use crate::matches::{show_met, show_scrutinees};
 use crate::programs::show_check;
 use std::alloc::Global;
-use xd_calls_lines::{Call, CallError, Desk};
+use xd_calls_lines::{Call, CallError, Fixture};
 use xd_calls_programs::Case;
 
 /// The program of the case.
 #[derive(Drop)]
-pub struct CheckedDesk {
+pub struct CheckedFixture {
     case: Case,
 }
 
-impl CheckedDesk {
+impl CheckedFixture {
     /// With no program yet.
-    pub fn new(alloc: Global) -> CheckedDesk {
-        CheckedDesk {
+    pub fn new(alloc: Global) -> CheckedFixture {
+        CheckedFixture {
             case: Case::new(alloc),
         }
     }
 }
 
-impl Desk for CheckedDesk {
+impl Fixture for CheckedFixture {
     fn answer(&mut self, call: &Call<'_>, out: &mut Vec<u8>) -> Result<(), CallError> {
         self.case.take(call.text)?;
         let about = call.about(self.case.program());

@@ -6,21 +6,21 @@ use crate::outside::{shelf, sink};
 use crate::programs::{program, types};
 use std::alloc::Global;
 use xd_base::{MemoryShelf, MemorySink};
-use xd_calls_lines::{Call, CallError, Desk};
+use xd_calls_lines::{Call, CallError, Fixture};
 use xd_calls_programs::Programs;
 
 /// A shelf and a sink, and the programs and types that were read.
 #[derive(Drop)]
-pub struct ProgramDesk {
+pub struct ProgramFixture {
     shelf: MemoryShelf,
     sink: Option<MemorySink>,
     programs: Programs,
 }
 
-impl ProgramDesk {
+impl ProgramFixture {
     /// With no program yet.
-    pub fn new(alloc: Global) -> ProgramDesk {
-        ProgramDesk {
+    pub fn new(alloc: Global) -> ProgramFixture {
+        ProgramFixture {
             shelf: MemoryShelf::new(alloc),
             sink: None,
             programs: Programs::new(alloc),
@@ -28,7 +28,7 @@ impl ProgramDesk {
     }
 }
 
-impl Desk for ProgramDesk {
+impl Fixture for ProgramFixture {
     fn answer(&mut self, call: &Call<'_>, out: &mut Vec<u8>) -> Result<(), CallError> {
         let about = call.of_subject();
         match call.name {

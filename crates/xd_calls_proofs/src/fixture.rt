@@ -2,25 +2,25 @@
 
 use crate::made::show_proof;
 use std::alloc::Global;
-use xd_calls_lines::{Call, CallError, Desk};
+use xd_calls_lines::{Call, CallError, Fixture};
 use xd_calls_programs::Case;
 
 /// The program of the case.
 #[derive(Drop)]
-pub struct ProofDesk {
+pub struct ProofFixture {
     case: Case,
 }
 
-impl ProofDesk {
+impl ProofFixture {
     /// With no program yet.
-    pub fn new(alloc: Global) -> ProofDesk {
-        ProofDesk {
+    pub fn new(alloc: Global) -> ProofFixture {
+        ProofFixture {
             case: Case::new(alloc),
         }
     }
 }
 
-impl Desk for ProofDesk {
+impl Fixture for ProofFixture {
     fn answer(&mut self, call: &Call<'_>, out: &mut Vec<u8>) -> Result<(), CallError> {
         self.case.take(call.text)?;
         show_proof(&call.about(self.case.program()), out)

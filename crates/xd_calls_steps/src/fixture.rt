@@ -4,24 +4,24 @@ use crate::loads::load;
 use crate::outputs::output;
 use std::alloc::Global;
 use xd_base::MemoryShelf;
-use xd_calls_lines::{Call, CallError, Desk};
+use xd_calls_lines::{Call, CallError, Fixture};
 
 /// A shelf in memory.
 #[derive(Drop)]
-pub struct StepDesk {
+pub struct StepFixture {
     shelf: MemoryShelf,
 }
 
-impl StepDesk {
+impl StepFixture {
     /// With no program yet.
-    pub fn new(alloc: Global) -> StepDesk {
-        StepDesk {
+    pub fn new(alloc: Global) -> StepFixture {
+        StepFixture {
             shelf: MemoryShelf::new(alloc),
         }
     }
 }
 
-impl Desk for StepDesk {
+impl Fixture for StepFixture {
     fn answer(&mut self, call: &Call<'_>, out: &mut Vec<u8>) -> Result<(), CallError> {
         let about = call.of_subject();
         match call.name {

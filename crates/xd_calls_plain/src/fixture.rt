@@ -3,25 +3,25 @@
 use crate::documents::documents;
 use crate::plain_calls::plain;
 use std::alloc::Global;
-use xd_calls_lines::{Call, CallError, Desk};
+use xd_calls_lines::{Call, CallError, Fixture};
 use xd_calls_programs::{Programs, show_read_program, show_read_type, show_soundness};
 
 /// The programs and types that were read.
 #[derive(Drop)]
-pub struct PlainDesk {
+pub struct PlainFixture {
     programs: Programs,
 }
 
-impl PlainDesk {
+impl PlainFixture {
     /// With no program yet.
-    pub fn new(alloc: Global) -> PlainDesk {
-        PlainDesk {
+    pub fn new(alloc: Global) -> PlainFixture {
+        PlainFixture {
             programs: Programs::new(alloc),
         }
     }
 }
 
-impl Desk for PlainDesk {
+impl Fixture for PlainFixture {
     fn answer(&mut self, call: &Call<'_>, out: &mut Vec<u8>) -> Result<(), CallError> {
         let about = call.of_subject();
         match call.name {

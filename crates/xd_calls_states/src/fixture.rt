@@ -9,25 +9,25 @@ use crate::streams::show_stream;
 use crate::types::{TypeShown, show_inhabitant, show_type};
 use std::alloc::Global;
 use xd_calls_goals::{show_cut_lines, show_read_case, show_split_words};
-use xd_calls_lines::{Call, CallError, Desk};
+use xd_calls_lines::{Call, CallError, Fixture};
 use xd_calls_programs::Case;
 
 /// The program of the case.
 #[derive(Drop)]
-pub struct StateDesk {
+pub struct StateFixture {
     case: Case,
 }
 
-impl StateDesk {
+impl StateFixture {
     /// With no program yet.
-    pub fn new(alloc: Global) -> StateDesk {
-        StateDesk {
+    pub fn new(alloc: Global) -> StateFixture {
+        StateFixture {
             case: Case::new(alloc),
         }
     }
 }
 
-impl Desk for StateDesk {
+impl Fixture for StateFixture {
     fn answer(&mut self, call: &Call<'_>, out: &mut Vec<u8>) -> Result<(), CallError> {
         self.case.take(call.text)?;
         answer(&call.about(self.case.program()), out)

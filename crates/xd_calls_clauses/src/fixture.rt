@@ -3,25 +3,25 @@
 use crate::clauses::Ways;
 use crate::{clauses, patterns, tracks};
 use std::alloc::Global;
-use xd_calls_lines::{Call, CallError, Desk};
+use xd_calls_lines::{Call, CallError, Fixture};
 use xd_calls_programs::Case;
 
 /// The program of the case.
 #[derive(Drop)]
-pub struct ClauseDesk {
+pub struct ClauseFixture {
     case: Case,
 }
 
-impl ClauseDesk {
+impl ClauseFixture {
     /// With no program yet.
-    pub fn new(alloc: Global) -> ClauseDesk {
-        ClauseDesk {
+    pub fn new(alloc: Global) -> ClauseFixture {
+        ClauseFixture {
             case: Case::new(alloc),
         }
     }
 }
 
-impl Desk for ClauseDesk {
+impl Fixture for ClauseFixture {
     fn answer(&mut self, call: &Call<'_>, out: &mut Vec<u8>) -> Result<(), CallError> {
         self.case.take(call.text)?;
         answer(&call.about(self.case.program()), out)

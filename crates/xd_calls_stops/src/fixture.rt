@@ -2,16 +2,16 @@
 
 use crate::stops::{show_begun, show_stops};
 use std::alloc::Global;
-use xd_calls_lines::{Call, CallError, Desk, NamedDesk};
+use xd_calls_lines::{Call, CallError, Fixture, NamedFixture};
 use xd_calls_programs::program_of;
 
 /// The text of the program that was read last.
 #[derive(Drop)]
-pub struct StopDesk {
+pub struct StopFixture {
     program: String,
 }
 
-impl Desk for StopDesk {
+impl Fixture for StopFixture {
     fn answer(&mut self, call: &Call<'_>, out: &mut Vec<u8>) -> Result<(), CallError> {
         match call.name {
             "program" => self.keep_program(call),
@@ -26,7 +26,7 @@ impl Desk for StopDesk {
     }
 }
 
-impl StopDesk {
+impl StopFixture {
     /// Keeps the program, which has no faults.
     fn keep_program(&mut self, call: &Call<'_>) -> Result<(), CallError> {
         let _program = program_of(call)?;
@@ -36,10 +36,10 @@ impl StopDesk {
     }
 }
 
-impl NamedDesk for StopDesk {
-    fn named(alloc: Global, name: &str) -> Result<StopDesk, CallError> {
+impl NamedFixture for StopFixture {
+    fn named(alloc: Global, name: &str) -> Result<StopFixture, CallError> {
         match name {
-            "stops" => Ok(StopDesk {
+            "stops" => Ok(StopFixture {
                 program: String::new(alloc),
             }),
             _ => Err(CallError::Unknown),

@@ -2,25 +2,25 @@
 
 use crate::values::show_values;
 use std::alloc::Global;
-use xd_calls_lines::{Call, CallError, Desk};
+use xd_calls_lines::{Call, CallError, Fixture};
 use xd_calls_programs::Case;
 
 /// The program of the case.
 #[derive(Drop)]
-pub struct ValueDesk {
+pub struct ValueFixture {
     case: Case,
 }
 
-impl ValueDesk {
+impl ValueFixture {
     /// With no program yet.
-    pub fn new(alloc: Global) -> ValueDesk {
-        ValueDesk {
+    pub fn new(alloc: Global) -> ValueFixture {
+        ValueFixture {
             case: Case::new(alloc),
         }
     }
 }
 
-impl Desk for ValueDesk {
+impl Fixture for ValueFixture {
     fn answer(&mut self, call: &Call<'_>, out: &mut Vec<u8>) -> Result<(), CallError> {
         self.case.take(call.text)?;
         let about = call.about(self.case.program());
