@@ -60,8 +60,8 @@ fn add_line(text: &mut String, line: &str) -> Result<(), CallError> {
     Ok(())
 }
 
-/// What lines have said so far: the fixture that was chosen, as it stands in this case, and the text
-/// that the next call takes.
+/// What lines have said so far: the fixture that was chosen, as it stands in this case, and the
+/// text that the next call takes.
 #[derive(Drop)]
 struct Reading<'a, D> {
     alloc: Global,
