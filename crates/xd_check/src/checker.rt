@@ -53,7 +53,8 @@ impl Checker {
     ghost use Rattle.xd_check_steps.specs.Signed.{IsSignatureOfRow};
     ghost use Rattle.xd_check_steps.specs.States.{Grows, IsMisfit};
 
-    /// The states of declared types and of the clauses' patterns are added to the automaton.
+    /// The states of declared types and of the clauses' patterns are added to the automaton. After
+    /// `NoMemory` nothing is known of it any more.
     pub fn new(alloc: Global, sound: SoundProgram, auto: &mut Auto) -> Result<Self, NoMemory>
         ensures ready { IfOk result (λ made. IsReady made auto.new) }
         ensures adds { IfOk result (λ made. AddsTypes sound made.sound) }

@@ -139,7 +139,8 @@ impl CompiledPatterns {
     /// Types and patterns of a program, whose states are the first ones of an automaton.
     ///
     /// Where a clause's scrutinee leads to a state of the automaton that its pattern leads to, too,
-    /// they are seen to be the same. Fails only where memory is refused.
+    /// they are seen to be the same. Fails only where memory is refused; then nothing is known of
+    /// the automaton any more.
     pub fn with_types(
         alloc: Global,
         compiler: &PatternCompiler,

@@ -14,7 +14,8 @@ use crate::stand_ins::StandIns;
 use xd_doc::NoMemory;
 use xd_syntax::{TypeForm, TypeId, Types};
 
-/// The number of the continuation that is the pieces of a type. Fails only where memory is refused.
+/// The number of the continuation that is the pieces of a type. Fails only where memory is refused;
+/// then nothing is known of the cells any more.
 pub fn content<S: StandIns>(
     types: &Types,
     part: TypeId,

@@ -281,7 +281,8 @@ fn first_tasks(
     Ok(tasks)
 }
 
-/// The moves of a continuation, in order, repetitions kept. Fails only where memory is refused.
+/// The moves of a continuation, in order, repetitions kept. Fails only where memory is refused;
+/// then nothing is known of the cells any more.
 pub fn expand<S: StandIns>(
     alloc: Global,
     sources: &Sources<'_>,

@@ -27,7 +27,7 @@ impl FirstUses {
     }
 
     /// Looks at the nodes that came after those that were looked at. Fails only where memory is
-    /// refused.
+    /// refused; then some of them were looked at, and a next call looks at all of them.
     pub fn cover(&mut self, types: &Types) -> Result<(), NoMemory> {
         for at in self.seen..types.len() {
             if let TypeForm::Name(word) = types.node(TypeId::of(at)).form() {

@@ -45,7 +45,8 @@ impl Graph {
         self.targets.len()
     }
 
-    /// One more edge. Both are nodes of the graph. Fails only where memory is refused.
+    /// One more edge. Both are nodes of the graph. Fails only where memory is refused; then nothing
+    /// is known of the graph any more.
     pub fn add(&mut self, from: usize, to: usize) -> Result<(), NoMemory>
         requires from { from < length self.old }
         requires to { to < length self.old }
