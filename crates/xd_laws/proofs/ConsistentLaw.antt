@@ -6,7 +6,6 @@ use Rattle.xd_doc.specs.Document.{Document, empty, text, element}
 use Rattle.xd_syntax.specs.Tree.{Tree, Definitions}
 use Rattle.xd_syntax.specs.Fits.{Fits}
 use Rattle.xd_rules.specs.Heads.{Head, HeadKind, element_in, text_in}
-use Rattle.xd_doc.specs.Members.{IsOneOf}
 use Rattle.xd_rules.specs.Listed.{SomeOf}
 use Rattle.xd_rules.specs.Rules.{Case, ChoiceTree, settles_content, settles_rest, split_on, Claim, numbered}
 use Rattle.xd_rules.specs.Meaning.{AllLeaves, IsMeaning, takes_label, takes_text}
