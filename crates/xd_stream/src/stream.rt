@@ -77,8 +77,9 @@ impl Stream {
 
     /// Ends the bytes.
     ///
-    /// `Malformed` where the bytes spell no document, `Outside` where they spell one that the state
-    /// doesn't accept, each with its place; `OutOfMemory` where memory is refused.
+    /// Where they spell no document that the state accepts, it tells the first token that none goes
+    /// on with: `Malformed` where the tokens up to it begin no document at all, else `Outside`. So
+    /// bytes that spell no document may be outside, too. `NoMemory` where memory is refused.
     pub fn finish(self) -> Result<(), StreamError>
         ensures ok { OnOk result ((bytes : List ℕ) → StandsFor self bytes → SpellsAccepted (automaton_of self) (start_of self) bytes) }
         ensures err { IfErr result (λ e. (bytes : List ℕ) → StandsFor self bytes → StopsAs (automaton_of self) (start_of self) bytes e) }
