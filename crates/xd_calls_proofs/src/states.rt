@@ -13,7 +13,7 @@ use xd_doc::NoMemory;
 use xd_heads::{Cells, compile_type};
 use xd_sound::SoundProgram;
 use xd_syntax::TypeId;
-use xd_uses_programs::sound_program;
+use xd_uses::sound_program;
 
 /// The program of a call, which is its text.
 pub fn program_of(call: &Call<'_>) -> Result<SoundProgram, CallError>

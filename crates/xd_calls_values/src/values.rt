@@ -15,7 +15,7 @@ use xd_eval::{Outcome, evaluate_with};
 use xd_match::Matchers;
 use xd_read::read_document;
 use xd_sound::Checked;
-use xd_uses_values::is_input;
+use xd_uses::is_input;
 use xd_write::write_document;
 
 /// `values FUEL DOCUMENTS`: the program's value on each of the documents, which fit its input type,

@@ -1,0 +1,4 @@
+pub mod Claims
+pub mod Comparison
+pub mod Membership
+pub mod Values
