@@ -2,6 +2,7 @@
 
 ghost use Rattle.std.specs.Prelude.{◌≡◌, ◌≤◌, ◌<◌, ◌^◌, None, length, IfOk, IsErrOf};
 ghost use Rattle.xd_base.specs.Outside.{HasRisen};
+ghost use Rattle.xd_files.specs.Front.{GivesFirst};
 
 use std::alloc::Global;
 use std::fs::File;
@@ -36,17 +37,20 @@ pub(crate) enum ReadFault {
     NoMemory,
 }
 
-/// The first `most` bytes of what the reader gives. Each turn takes a byte, or is the last.
-pub(crate) fn front(
+/// The first `most` bytes of what the reader gives, or all that it gives where that is less.
+///
+/// Each turn takes a byte, or is the last.
+pub(crate) fn front<R: Read>(
     alloc: Global,
-    reader: &mut impl Read,
+    reader: &mut R,
     most: usize,
 ) -> Result<Vec<u8>, ReadFault>
-    ensures { IfOk result (λ text. length text.items ≤ most) }
+    ensures length { IfOk result (λ text. length text.items ≤ most) }
+    ensures first { IfOk result (λ text. GivesFirst (R.remaining reader.old) (R.remaining reader.new) most text.items) }
 {
     let mut text = Vec::new(alloc);
     let mut piece = [0; PIECE];
-    while text.len() < most {
+    'pieces: while text.len() < most {
         let wanted = (most - text.len()).min(PIECE);
         match reader.read(&mut piece[..wanted]) {
             Ok(0) => break,

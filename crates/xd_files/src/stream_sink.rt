@@ -1,6 +1,8 @@
 //! The sink over a stream.
 
-ghost use Rattle.std.specs.Prelude.{◌≡◌, ◌<◌, ◌≤◌, length, IfOk};
+ghost use Rattle.std.specs.Prelude.{◌≡◌, ◌<◌, ◌≤◌, length, take, IfOk, OnErr};
+ghost use Rattle.std.specs.Io.KnownBytes.{Appends};
+ghost use Rattle.xd_files.specs.Front.{GrowsByFront};
 
 use std::io::{self, ErrorKind, Write};
 use xd_base::{PutError, Sink};
@@ -23,8 +25,10 @@ impl<W: Write> StreamSink<W> {
 
 /// How many bytes the stream takes of these and flushes. To take none, though there are some, is a
 /// fault.
-fn write_some(stream: &mut impl Write, bytes: &[u8]) -> io::Result<usize>
-    ensures { IfOk result (λ n. (n ≤ length bytes.now) × (0 < length bytes.now → 0 < n)) }
+fn write_some<W: Write>(stream: &mut W, bytes: &[u8]) -> io::Result<usize>
+    ensures count { IfOk result (λ n. (n ≤ length bytes.now) × (0 < length bytes.now → 0 < n)) }
+    ensures taken { IfOk result (λ n. Appends (W.contents stream.old) (W.contents stream.new) (take n bytes.now)) }
+    ensures failed { OnErr result (GrowsByFront (W.contents stream.old) (W.contents stream.new) bytes.now) }
 {
     let taken = stream.write(bytes)?;
     if taken == 0 && !bytes.is_empty() {

@@ -1,10 +1,20 @@
 //! The program `xduce`: files and the standard output around the command.
 #![tactic(auto)]
 
+ghost use Rattle.std.specs.Prelude.{map};
+ghost use Rattle.std.specs.String.{string_bytes};
+ghost use Rattle.std.specs.Process.{exit_status};
+ghost use Rattle.xd_base.specs.Outside.{HasRisen};
+ghost use Rattle.xd_command.specs.Command.{command_of};
+ghost use Rattle.xd_command.specs.Outcome.{IsOutcome};
+
+use std::alloc::Global;
 use std::process::ExitCode;
 use std::rt::Env;
 use std::{env, io};
-use xd_files::{FileShelf, StreamSink};
+use xd_base::{Shelf, Sink};
+use xd_command::Status;
+use xd_files::{FileShelf, StreamSink, command_words, exit_code};
 
 /// The words after the program's name.
 fn words(rt: &(impl Env + AllocGlobal)) -> io::Result<Vec<String>> {
@@ -15,15 +25,20 @@ fn words(rt: &(impl Env + AllocGlobal)) -> io::Result<Vec<String>> {
     Ok(words)
 }
 
+/// Does what the words ask for, and ends with the status.
+fn run<H: Shelf, S: Sink>(alloc: Global, words: &[String], shelf: &mut H, sink: &mut S) -> ExitCode
+    ensures { IsOutcome (command_of (map string_bytes words.now)) (H.holds shelf.old) (HasRisen (H.faults shelf.old) (H.faults shelf.new)) (HasRisen (S.faults sink.old) (S.faults sink.new)) (S.written sink.old) (S.written sink.new) (exit_status result) }
+{
+    exit_code(xd_command::xduce(alloc, words, shelf, sink).code)
+}
+
 fn main(rt: HostRuntime) -> ExitCode {
-    let words = match words(&rt) {
-        Ok(words) => words,
-        // A word that isn't UTF-8 is no word of any form, and neither are no words at all.
-        Err(error) if error.kind() == io::ErrorKind::InvalidData => Vec::new(rt.alloc()),
-        Err(_) => return ExitCode::from(5),
-    };
-    let mut shelf = FileShelf::new(&rt);
-    let mut sink = StreamSink::new(io::writer(&rt));
-    let status = xd_command::xduce(rt.alloc(), &words, &mut shelf, &mut sink);
-    ExitCode::from(status.code)
+    match command_words(rt.alloc(), words(&rt)) {
+        Some(words) => {
+            let mut shelf = FileShelf::new(&rt);
+            let mut sink = StreamSink::new(io::writer(&rt));
+            run(rt.alloc(), &words, &mut shelf, &mut sink)
+        }
+        None => exit_code(Status::NO_MEMORY.code),
+    }
 }
