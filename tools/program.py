@@ -1,0 +1,184 @@
+"""What makes the program, where programs stand and what is said of each: for ./xduce and the scripts beside this file.
+
+A program stands in a folder with a stamp beside it, which the launcher reads too. That has `sum`, a sum of the code that the
+program was made of, `folders`, where that code stands in crates/, `program`, the program's own sum, `kit`, what built it, and
+`how`, what `./xduce version` says of it. Its time is that at which the code was last seen to have the first sum.
+
+What is shipped stands in dist/, packed, with a line in dist/programs.txt: the file, the sum of the code that it was made of,
+the sum of the program, and the kit that it was proved with.
+"""
+import collections
+import fcntl
+import hashlib
+import os
+import platform
+import re
+import shlex
+import subprocess
+import sys
+
+ROOT = os.path.dirname(os.path.dirname(os.path.abspath(__file__)))
+CRATES, DIST = f"{ROOT}/crates", f"{ROOT}/dist"
+OUT = f"{CRATES}/xduce/out"
+LIST = f"{DIST}/programs.txt"
+# Each program that is shipped, and its crate.
+PROGRAMS = {"xduce": "xduce"}
+# What makes the program, and what is claimed of it and proves that.
+MAKES, PROVES = ("src",), ("specs", "proofs")
+
+Shipped = collections.namedtuple("Shipped", "file code program kit")
+
+
+class Unusable(Exception):
+    """Why a shipped program can't be used."""
+
+
+def say(text):
+    print(f"xduce: {text}", file=sys.stderr, flush=True)
+
+
+def fail(text):
+    say(text)
+    sys.exit(125)
+
+
+def version():
+    with open(f"{ROOT}/VERSION") as file:
+        return file.read().strip()
+
+
+def crates_below(name):
+    """Each crate that this one stands on, with those that it names and its line in crates.txt; the lowest first, itself last."""
+    below, said, found = {}, {}, {}
+    with open(f"{ROOT}/crates.txt") as lines:
+        for line in lines:
+            names, colon, uses = line.partition("#")[0].partition(":")
+            if colon:
+                below[names.split()[0]], said[names.split()[0]] = uses.split(), line.strip()
+
+    def visit(name):
+        if name in below and name not in found:
+            for use in below[name]:
+                visit(use)
+            found[name] = [use for use in below[name] if use in below]
+
+    visit(name)
+    return found, {crate: said[crate] for crate in found}
+
+
+def files_of(top, crate, parts):
+    for part in parts:
+        for folder, folders, names in os.walk(f"{top}/{crate}/{part}"):
+            folders.sort()
+            yield from (f"{folder}/{name}" for name in sorted(names) if name.endswith((".rt", ".antt")))
+
+
+def sum_of(top, lines, parts=MAKES):
+    """A sum of the code of these crates, or of more of them, and of their lines in crates.txt."""
+    found = hashlib.sha256(repr(lines).encode())
+    for crate in lines:
+        for path in files_of(top, crate, parts):
+            with open(path, "rb") as file:
+                found.update(repr((os.path.relpath(path, top), file.read())).encode())
+    return found.hexdigest()
+
+
+def sum_of_file(path):
+    with open(path, "rb") as file:
+        return hashlib.sha256(file.read()).hexdigest()
+
+
+def stamp_of(place):
+    """What the stamp of a folder says, where its program stands there."""
+    try:
+        with open(f"{place}/xduce.built") as file:
+            lines = dict(line.rstrip("\n").partition("=")[::2] for line in file)
+        said = {name: "".join(shlex.split(text)) for name, text in lines.items()}
+        return said if said.get("program") == sum_of_file(f"{place}/xduce") else {}
+    except (OSError, ValueError):
+        return {}
+
+
+def put_stamp(place, found, lines, kit, how, begun, proved=""):
+    """Says of what a program was made, and a sum of all that was proved with it. What is edited after this time is newer."""
+    folders = [f"{crate}/{part}" for crate in lines for part in MAKES if os.path.isdir(f"{CRATES}/{crate}/{part}")]
+    new = f"{place}/xduce.built.{os.getpid()}"
+    with open(new, "w") as file:
+        file.write(f"sum={found}\nfolders='{' '.join(folders)}'\nprogram={sum_of_file(f'{place}/xduce')}\n")
+        file.write(f"proved={proved}\nkit={shlex.quote(kit)}\nhow={shlex.quote(how)}\n")
+    os.utime(new, (begun, begun))
+    os.replace(new, f"{place}/xduce.built")
+
+
+def put_program(place, data):
+    """Puts a program into a folder, whole or not at all."""
+    os.makedirs(place, exist_ok=True)
+    new = f"{place}/xduce.{os.getpid()}"
+    try:
+        with open(new, "wb") as file:
+            file.write(data)
+        os.chmod(new, 0o755)
+        os.replace(new, f"{place}/xduce")
+    except OSError:
+        if os.path.exists(new):
+            os.remove(new)
+        raise
+
+
+def hold(folders):
+    """Waits until nobody else has these folders, and keeps others out until this call ends."""
+    held = [os.open(folder, os.O_RDONLY) for folder in folders]
+    has_waited = False
+    for file in held:
+        try:
+            fcntl.flock(file, fcntl.LOCK_EX | fcntl.LOCK_NB)
+        except BlockingIOError:
+            if not has_waited:
+                say("another call builds the program, or rt runs here: waiting for it")
+            has_waited = True
+            fcntl.flock(file, fcntl.LOCK_EX)
+        except OSError:
+            pass  # some file systems have no locks
+    return held
+
+
+def all_shipped():
+    """Each line of dist/programs.txt."""
+    if not os.path.exists(LIST):
+        return []
+    with open(LIST) as file:
+        rows = [line.split(None, 3) for line in file.read().splitlines() if line and line[0] != "#"]
+    wrong = [row for row in rows if len(row) != 4]
+    if wrong:
+        raise Unusable(f"{LIST} has a line of no form: {' '.join(wrong[0])}")
+    return [Shipped(*row) for row in rows]
+
+
+def shipped(name, machine=None):
+    """What is shipped of a program for a machine, or None."""
+    form = re.compile(rf"{re.escape(name)}-\d[\w.]*-{machine or platform.machine()}\.xz")
+    return next((it for it in all_shipped() if form.fullmatch(it.file)), None)
+
+
+def unpacked(line):
+    """The program of a line of dist/programs.txt."""
+    path = f"{DIST}/{line.file}"
+    try:
+        with open(path, "rb") as file:
+            packed = file.read()
+    except OSError as error:
+        raise Unusable(f"{path}: {error.strerror}")
+    try:
+        import lzma
+        data = lzma.decompress(packed)
+    except ImportError:
+        # (some Pythons are built without it)
+        try:
+            data = subprocess.run(["xz", "-dc"], input=packed, stdout=subprocess.PIPE, stderr=subprocess.DEVNULL).stdout
+        except OSError:
+            raise Unusable(f"unpacking {path} needs Python's lzma, or xz")
+    except lzma.LZMAError:
+        data = b""
+    if hashlib.sha256(data).hexdigest() != line.program:
+        raise Unusable(f"{path} is damaged: it isn't the program that {os.path.basename(LIST)} names")
+    return data
