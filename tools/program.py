@@ -1,11 +1,13 @@
-"""What makes the program, where programs stand and what is said of each: for ./xduce and the scripts beside this file.
+"""What makes the program, where programs stand and what is said of each.
 
-A program stands in a folder with a stamp beside it, which the launcher reads too. That has `sum`, a sum of the code that the
-program was made of, `folders`, where that code stands in crates/, `program`, the program's own sum, `kit`, what built it, and
-`how`, what `./xduce version` says of it. Its time is that at which the code was last seen to have the first sum.
+A program stands in a folder with a stamp beside it, which the launcher reads too. That has `sum`, a
+sum of the code that the program was made of, `folders`, where that code stands in crates/,
+`program`, the program's own sum, `kit`, what built it, and `how`, what `./xduce version` says of
+it. `proved` is a sum of all that was proved, where it was proved here. The stamp's time is that at
+which the code was last seen to have the first sum.
 
-What is shipped stands in dist/, packed, with a line in dist/programs.txt: the file, the sum of the code that it was made of,
-the sum of the program, and the kit that it was proved with.
+What is shipped stands in dist/, packed, with a line in dist/programs.txt: the file, the sum of the
+code that it was made of, the sum of the program, and the kit that it was proved with.
 """
 import collections
 import fcntl
@@ -14,6 +16,7 @@ import os
 import platform
 import re
 import shlex
+import shutil
 import subprocess
 import sys
 
@@ -47,14 +50,23 @@ def version():
         return file.read().strip()
 
 
+def kit_here():
+    """The kit whose rt is on the PATH, in its own words."""
+    if not shutil.which("rt"):
+        return ""
+    return subprocess.run(["rt", "version"], stdout=subprocess.PIPE, text=True).stdout.strip()
+
+
 def crates_below(name):
-    """Each crate that this one stands on, with those that it names and its line in crates.txt; the lowest first, itself last."""
+    """Each crate that this one stands on, with those that it names and its line in crates.txt.
+    The lowest come first, and the crate itself last."""
     below, said, found = {}, {}, {}
     with open(f"{ROOT}/crates.txt") as lines:
         for line in lines:
             names, colon, uses = line.partition("#")[0].partition(":")
             if colon:
-                below[names.split()[0]], said[names.split()[0]] = uses.split(), line.strip()
+                crate = names.split()[0]
+                below[crate], said[crate] = uses.split(), line.strip()
 
     def visit(name):
         if name in below and name not in found:
@@ -70,7 +82,9 @@ def files_of(top, crate, parts):
     for part in parts:
         for folder, folders, names in os.walk(f"{top}/{crate}/{part}"):
             folders.sort()
-            yield from (f"{folder}/{name}" for name in sorted(names) if name.endswith((".rt", ".antt")))
+            for name in sorted(names):
+                if name.endswith((".rt", ".antt")):
+                    yield f"{folder}/{name}"
 
 
 def sum_of(top, lines, parts=MAKES):
@@ -99,13 +113,20 @@ def stamp_of(place):
         return {}
 
 
-def put_stamp(place, found, lines, kit, how, begun, proved=""):
-    """Says of what a program was made, and a sum of all that was proved with it. What is edited after this time is newer."""
-    folders = [f"{crate}/{part}" for crate in lines for part in MAKES if os.path.isdir(f"{CRATES}/{crate}/{part}")]
+def put_stamp(place, code, lines, kit, how, begun, proved=""):
+    """Says of what a program was made. What is edited after this time is newer."""
+    folders = [f"{crate}/{part}" for crate in lines for part in MAKES]
+    said = {
+        "sum": code,
+        "folders": " ".join(it for it in folders if os.path.isdir(f"{CRATES}/{it}")),
+        "program": sum_of_file(f"{place}/xduce"),
+        "kit": kit,
+        "how": how,
+        "proved": proved,
+    }
     new = f"{place}/xduce.built.{os.getpid()}"
     with open(new, "w") as file:
-        file.write(f"sum={found}\nfolders='{' '.join(folders)}'\nprogram={sum_of_file(f'{place}/xduce')}\n")
-        file.write(f"proved={proved}\nkit={shlex.quote(kit)}\nhow={shlex.quote(how)}\n")
+        file.writelines(f"{name}={shlex.quote(text)}\n" for name, text in said.items())
     os.utime(new, (begun, begun))
     os.replace(new, f"{place}/xduce.built")
 
@@ -146,17 +167,22 @@ def all_shipped():
     """Each line of dist/programs.txt."""
     if not os.path.exists(LIST):
         return []
-    with open(LIST) as file:
-        rows = [line.split(None, 3) for line in file.read().splitlines() if line and line[0] != "#"]
+    with open(LIST, errors="replace") as file:
+        rows = [line.split(None, 3) for line in file if line.strip() and line[0] != "#"]
     wrong = [row for row in rows if len(row) != 4]
     if wrong:
-        raise Unusable(f"{LIST} has a line of no form: {' '.join(wrong[0])}")
-    return [Shipped(*row) for row in rows]
+        raise Unusable(f"{LIST} has a line of no form: {' '.join(wrong[0]).strip()}")
+    return [Shipped(*row[:3], row[3].strip()) for row in rows]
+
+
+def file_form(name, machine=None):
+    """What the names of a program's packed files match, of any version."""
+    return re.compile(rf"{re.escape(name)}-\d[\w.]*-{machine or platform.machine()}\.xz")
 
 
 def shipped(name, machine=None):
     """What is shipped of a program for a machine, or None."""
-    form = re.compile(rf"{re.escape(name)}-\d[\w.]*-{machine or platform.machine()}\.xz")
+    form = file_form(name, machine)
     return next((it for it in all_shipped() if form.fullmatch(it.file)), None)
 
 
@@ -170,15 +196,16 @@ def unpacked(line):
         raise Unusable(f"{path}: {error.strerror}")
     try:
         import lzma
+
         data = lzma.decompress(packed)
     except ImportError:
         # (some Pythons are built without it)
-        try:
-            data = subprocess.run(["xz", "-dc"], input=packed, stdout=subprocess.PIPE, stderr=subprocess.DEVNULL).stdout
-        except OSError:
+        if not shutil.which("xz"):
             raise Unusable(f"unpacking {path} needs Python's lzma, or xz")
+        how = {"stdout": subprocess.PIPE, "stderr": subprocess.DEVNULL}
+        data = subprocess.run(["xz", "-dc"], input=packed, **how).stdout
     except lzma.LZMAError:
         data = b""
     if hashlib.sha256(data).hexdigest() != line.program:
-        raise Unusable(f"{path} is damaged: it isn't the program that {os.path.basename(LIST)} names")
+        raise Unusable(f"{path} is damaged: it isn't the program that dist/programs.txt names")
     return data
