@@ -7,6 +7,7 @@ import hashlib
 import os
 import re
 import sys
+import typing
 
 ROOT = os.path.dirname(os.path.dirname(os.path.abspath(__file__)))
 DIRECTIVE = re.compile(r"(?:(each|every) (prefix|number|fetch|put|room)(?: of (\S+))? )?\$ ?(.*)")
@@ -26,8 +27,34 @@ def varied(files, how, name):
     return [{**files, name: it} for it in texts]
 
 
-def answers_of(lines):
-    """What each run of a directive answered: the status and what is written, or None where that isn't shown."""
+class Run(typing.NamedTuple):
+    """A run of a worked case. What is asked and what is answered, and where that stands."""
+
+    words: list
+    files: dict
+    status: int
+    # What is written, where that is shown: all of it, or the first bytes of so many.
+    shown: typing.Optional[bytes]
+    length: typing.Optional[int]
+    # The sink has room for so many bytes, where it has a limit.
+    room: typing.Optional[int]
+    # A call of the shelf or the sink fails, or takes a part alone.
+    is_faulty: bool
+    heading: str
+    case: str
+    number: int
+    line: int
+    directive: str
+
+    def is_answered_by(self, status, written):
+        """Whether this status and these bytes are what is answered."""
+        if self.length is not None and (len(written) != self.length or not written.startswith(self.shown)):
+            return False
+        return status == self.status and (self.shown is None or self.length is not None or written == self.shown)
+
+
+def answers_of(lines, is_shown):
+    """What each run of a directive answered: the status, what is written, and how long that is if it is cut."""
     found = []
     for line in lines:
         status = re.fullmatch(r"status (\d+)(?: x (\d+))?", line)
@@ -36,20 +63,27 @@ def answers_of(lines):
         elif found:
             found[-1][2].append(line)
     for status, count, shown in found:
-        is_whole = shown and all(line[0] == ">" for line in shown)
-        yield from [(status, "".join(line[2:] + "\n" for line in shown) if is_whole else None)] * count
+        text = "\n".join(line[2:] for line in shown if line[0] == ">").encode(errors="surrogateescape")
+        cut = re.fullmatch(r"\.\. (\d+) bytes", shown[-1]) if shown else None
+        if shown and not cut and shown[-1] != "no line end":
+            text += b"\n"
+        yield from [(status, text if is_shown else None, int(cut[1]) if cut else None)] * count
 
 
-def runs():
-    """Each run of the worked cases: its words, its files, its status and its output."""
-    files, name, block = {}, None, []
+def worked():
+    """Each run of the worked cases, a Run; of those in which a call of the shelf or the sink fails in turn, none that no file shows."""
+    files, name = {}, None
+    heading = case = ""
+    number, room, faults = 0, None, {}
     lines = open(f"{ROOT}/crates/xd_cases/stdout", errors="surrogateescape").read().split("\n")
     at = 0
     while at < len(lines):
         line = lines[at]
         at += 1
-        if line.startswith("case "):
-            files = {}
+        if line.startswith("# "):
+            heading = line[2:]
+        elif line.startswith("case "):
+            files, room, faults, case, number = {}, None, {}, line[5:], number + 1
         elif line.startswith("file "):
             _, name, *first = line.split(" ", 2)
             files[name] = "".join(first).encode(errors="surrogateescape")
@@ -60,16 +94,32 @@ def runs():
         elif line.startswith("+ "):
             count, _, text = line[2:].partition('"')
             files[name] += text.rpartition('"')[0].encode() * int(count or 1)
+        elif line.startswith("sink room "):
+            room = int(line[10:])
+        elif line.startswith(("shelf ", "sink ")):
+            of, what, *calls = line.split()
+            faults[of, what] = calls
         elif DIRECTIVE.fullmatch(line):
             shown, how, of, words = DIRECTIVE.fullmatch(line).groups()
             end = next(it for it in range(at, len(lines) + 1) if it == len(lines) or not re.match(r"status |> |\.\. |no line end|>", lines[it]))
-            given = [files] if not how else varied(files, how, of) if of else []
-            found = list(answers_of(lines[at:end]))
-            if given and len(given) != len(found):
+            found = list(answers_of(lines[at:end], shown != "each"))
+            rooms = range(len(found)) if how == "room" else [room] * len(found)
+            # (a case may change its files after a run)
+            given = varied(dict(files), how, of) if of else [dict(files)] * len(found)
+            if len(given) != len(found):
                 sys.exit(f".ci/cases.py: {words}: {len(given)} runs and {len(found)} answers")
-            for each, (status, output) in zip(given, found):
-                yield words.split(), each, status, output
+            for each, its, answer in zip(given, rooms, found):
+                yield Run(words.split(), each, *answer, its, any(faults.values()) or how in ("fetch", "put"), heading, case, number, at, line)
             at = end
+
+
+def runs():
+    """Each run of the worked cases whose calls of the outside don't fail in turn: its words, its files, its status, and its output where
+    that is shown whole, with a line feed at its end."""
+    for it in worked():
+        if not it.directive.startswith(("each fetch ", "each put ", "each room ", "every fetch ", "every put ", "every room ")):
+            is_whole = it.shown and it.length is None and it.shown.endswith(b"\n")
+            yield it.words, it.files, it.status, it.shown.decode(errors="surrogateescape") if is_whole else None
 
 
 def key(words, text_of):
