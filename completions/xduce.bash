@@ -18,13 +18,23 @@ _xduce_files() {
     done < <(compgen -f -- "$1")
 }
 
+# The names of a file's types that begin with the word. A file's word is as it was typed: quotes, `\ ` and `~` still stand in it.
+_xduce_types() {
+    local file=${1/#\~\//"$HOME/"} name
+    file=${file//\\/}
+    file=${file//[\"\']/}
+    while IFS= read -r name; do
+        [[ $name == "$2"* ]] && COMPREPLY+=("$name")
+    done < <(_xduce_names "$file" | sort -u)
+}
+
 _xduce() {
     local word=${COMP_WORDS[COMP_CWORD]} command=${COMP_WORDS[1]-} file=${COMP_WORDS[2]-} name
     COMPREPLY=()
     if ((COMP_CWORD == 1)); then
         name='check fits least minus precise run sample stream subtype types upgrade verify'
         # The script of the sources has words of its own.
-        [[ ${COMP_WORDS[0]} == */* ]] && name="$name help version install uninstall"
+        [[ ${COMP_WORDS[0]} == */* ]] && name="$name help version test prove install uninstall"
         while IFS= read -r name; do
             COMPREPLY+=("$name")
         done < <(compgen -W "$name" -- "$word")
@@ -35,16 +45,38 @@ _xduce() {
         _xduce_files "$word"
         ;;
     fits:3 | least:3 | minus:3 | minus:4 | stream:3 | subtype:3 | subtype:4)
-        # A file's word is as it was typed: quotes, `\ ` and `~` still stand in it.
-        file=${file/#\~\//"$HOME/"}
-        file=${file//\\/}
-        file=${file//[\"\']/}
-        while IFS= read -r name; do
-            [[ $name == "$word"* ]] && COMPREPLY+=("$name")
-        done < <(_xduce_names "$file" | sort -u)
+        _xduce_types "$file" "$word"
+        ;;
+    esac
+    return 0
+}
+
+# The scripts: their options, types of the file that is their first word, and else files.
+_xduce_script() {
+    local word=${COMP_WORDS[COMP_CWORD]} script=${COMP_WORDS[0]##*/xduce-} file='' place=0 each
+    local options='format:--flat'
+    script=${script#xduce-}
+    COMPREPLY=()
+    if [[ $word == -* ]]; then
+        for each in $options; do
+            [[ $each == "$script:$word"* ]] && COMPREPLY+=("${each#*:}")
+        done
+        return 0
+    fi
+    for each in "${COMP_WORDS[@]:1:COMP_CWORD}"; do
+        [[ $each == -* ]] && continue
+        ((++place == 1)) && file=$each
+    done
+    case $script:$place in
+    versions:3 | where:2)
+        _xduce_types "$file" "$word"
+        ;;
+    *)
+        _xduce_files "$word"
         ;;
     esac
     return 0
 }
 
 complete -F _xduce xduce ./xduce
+complete -F _xduce_script xduce-check-proof xduce-explain xduce-format xduce-lint xduce-versions xduce-where
