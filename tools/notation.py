@@ -481,10 +481,14 @@ class Parsed:
         self.tokens = text if text.__class__ is Tokens else Tokens(text)
         if self.tokens is text:
             self.text = text.text
-        self.faults, self.opened, self.stack, self.values = [], [], [SYMBOLS[start]], []
+        self.faults, self.skipped = [], []
+        self.stack, self.values, self.open = [SYMBOLS[start]], [], []
         self.limit = len(self.tokens.kinds) if start == "Document" else DEEPEST
-        self.skipped = []
-        self.read(len(self.tokens.kinds) if until is None else self.index_of(until))
+        end = len(self.tokens.kinds) if until is None else self.index_of(until)
+        self.read(end)
+        self.expected, self.possible = self.may_stand(self.stack)
+        self.opened = list(self.open)
+        self.drop(0, end - 1)
         self.roots = self.values
 
     def index_of(self, at):
@@ -492,7 +496,7 @@ class Parsed:
         return min(bisect.bisect_left(self.tokens.starts, at), len(self.tokens.kinds) - 1)
 
     def read(self, end):
-        kinds, stack, values, opened = self.tokens.kinds, self.stack, self.values, self.opened
+        kinds, stack, values, opened = self.tokens.kinds, self.stack, self.values, self.open
         at, limit, quiet = 0, self.limit, -1
         while at < end:
             kind, top = kinds[at], len(stack) - 1
@@ -540,10 +544,6 @@ class Parsed:
             self.skipped.append((before, at))
             quiet = at + QUIET
 
-        self.expected, self.possible = self.may_stand(stack)
-        if end == len(kinds):
-            self.drop(0, end - 1)
-
     @staticmethod
     def may_stand(stack):
         """What may stand next, in a person's words, and as kinds of tokens."""
@@ -562,7 +562,7 @@ class Parsed:
         """Takes symbols from the stack, and puts in nodes for what is missing."""
         for symbol in reversed(self.stack[top:]):
             for step in symbol.drop if symbol.__class__ is Symbol else (symbol,):
-                step(self.values, last, self.opened)
+                step(self.values, last, self.open)
         del self.stack[top:]
 
     def begins(self, at):
