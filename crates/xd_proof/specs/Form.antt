@@ -4,13 +4,14 @@
 -- of these is the first bad line of a text that is right up to there:
 --
 --   xduce-proof 3        line 1: neither format has such a title
---   goals 0              line 2: a number has no zero before it
+--   goals 0              line 2: a number is at least 1
 --   goal 2               line 3: the goals are numbered from 1 on
 --   left Q               line 4: where the program has no type Q
 --   right 3              of the second format, where `types 2` was said: there is no such type
 --   case 1 a c 1         in place of a `left`: no text of a goal goes on so
 --   goal 3               after the last of `goals 2`: `end` is wanted
---   the line after the last one, if the text ends before `end`, or if `end` has no line feed
+--   the line after the last one that is ended, if the text ends before `end`, or if `end` has no
+--   line feed
 use Rattle.std.specs.Prelude.{◌≡◌, ◌⊎◌, ℕ, ◌+◌, ◌-◌, ◌<◌, ◌≤◌, List, [], ◌∷◌, ◌++◌, map, length, take, Option, Some, None}
 use Rattle.xd_syntax.specs.Tree.{Tree}
 use Rattle.xd_rules.specs.Rules.{Case, numbered}
