@@ -1,4 +1,5 @@
-//! The type of what a state accepts, where `Any` is written for each content.
+//! The type of what a state accepts, where `Any` is written for each content; and the definitions
+//! of types that show it.
 
 ghost use Rattle.std.specs.Prelude.{◌<◌, IfOk, IfSome, length};
 ghost use Rattle.xd_auto.specs.Automaton.{IsState};
@@ -6,10 +7,12 @@ ghost use Rattle.xd_calls_parts.specs.Written.{IsWrittenForAll};
 ghost use Rattle.xd_syntax.specs.Types.{BelongsTo};
 
 use std::alloc::Global;
+use std::io::Write;
 use xd_auto::{Auto, State};
 use xd_boole::universal_states;
-use xd_calls_lines::CallError;
+use xd_calls_lines::{Call, CallError, label};
 use xd_same_types::{Pool, any_type};
+use xd_show::show;
 use xd_show_solve::{level_of, state_type};
 use xd_syntax::TypeId;
 use xd_type_text::type_text;
@@ -31,6 +34,28 @@ pub fn show_solved(
         None => out.extend_from_slice(b"none")?,
     }
     out.push(b'\n')?;
+    Ok(())
+}
+
+/// The name of each definition that shows what the state accepts, without the names that stand in
+/// the call after the first word, and the name of the first.
+pub fn show_types(
+    call: &Call<'_>,
+    auto: &Auto,
+    state: State,
+    out: &mut Vec<u8>,
+) -> Result<(), CallError>
+    requires { IsState auto.now state }
+{
+    let mut taken = Vec::new(call.alloc);
+    for word in call.behind.split_whitespace().skip(1) {
+        taken.push(label(call.alloc, word)?)?;
+    }
+    let shown = show(call.alloc, auto, state, &taken)?;
+    for definition in shown.sound.program().type_defs() {
+        writeln!(out, "{}", definition.name.as_str())?;
+    }
+    writeln!(out, "first {}", shown.start.as_str())?;
     Ok(())
 }
 

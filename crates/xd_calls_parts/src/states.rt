@@ -3,7 +3,7 @@
 
 ghost use Rattle.xd_auto.specs.Automaton.{IsState};
 
-use crate::solved::show_solved;
+use crate::solved::{show_solved, show_types};
 use std::alloc::Global;
 use std::io::Write;
 use xd_auto::{Auto, State, StateKey};
@@ -15,15 +15,17 @@ use xd_rules::{Atom, label_atoms, share, text_atoms};
 use xd_show_solve::level_of;
 use xd_state_heads::{goal_cases, sides_of, unnamed_of};
 
-/// `set_of NUMBERS`; `keys ONE TWO`, whether the key of the one before the other is that of the other
-/// before the one; `level TYPE`, to how many states the type's state leads after items, itself
-/// included; `cases TYPE`, each head that the type's state begins with, at each of its atoms, and how
-/// many heads match there; `unnamed TYPE`; `kept TYPE MARK DOCUMENTS`, with `all` states
-/// marked or `none`; `merged TYPE DOCUMENTS`; `taken TYPE DOCUMENTS`; `solved TYPE`, the type of what
-/// the type's state accepts, with `Any` for each content; `uses TYPE`, whether moves wait at first,
-/// and whether they do once the type's state is found; `groups TYPE PLACE`, in how many groups the
-/// texts of its first move on a text fall by its moves before this place; `label_atoms CLASS` and
-/// `text_atoms CLASS`, the atoms of a class where it alone is named.
+/// `set_of NUMBERS`; `keys ONE TWO`, whether the key of the one before the other is that of the
+/// other before the one; `level TYPE`, to how many states the type's state leads after items,
+/// itself included; `cases TYPE`, each head that the type's state begins with, at each of its
+/// atoms, and how many heads match there; `unnamed TYPE`; `kept TYPE MARK DOCUMENTS`, with `all`
+/// states marked or `none`; `merged TYPE DOCUMENTS`; `taken TYPE DOCUMENTS`; `solved TYPE`, the
+/// type of what the type's state accepts, with `Any` for each content; `uses TYPE`, whether moves
+/// wait at first, and whether they do once the type's state is found; `shown TYPE NAMES`, the names
+/// of the definitions that show what the type's state accepts, without these names, and then the
+/// name of the first; `groups TYPE PLACE`, in how many groups the texts of its first move on a text
+/// fall by its moves before this place; `label_atoms CLASS` and `text_atoms CLASS`, the atoms of a
+/// class where it alone is named.
 pub fn states(call: &Call<'_>, out: &mut Vec<u8>) -> Result<(), CallError> {
     match call.name {
         "set_of" => show_set(call, out),
@@ -54,6 +56,7 @@ fn state_call(
         "merged" => show_merged(call, auto, state, out),
         "taken" => show_taken(call, auto, state, out),
         "solved" => show_solved(call.alloc, auto, state, out),
+        "shown" => show_types(call, auto, state, out),
         "uses" => show_uses(call.alloc, auto, state, out),
         "groups" => show_groups(call, auto, state, out),
         _ => Err(CallError::Call),
