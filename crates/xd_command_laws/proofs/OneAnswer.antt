@@ -68,7 +68,7 @@ abbrev status : Output → ℕ
 status o = o.status
 
 one_status : (command : Command) (o p : Output) → MayDiffer command o p → status o ≡ status p
-one_status (Subtype file left right) o p (inl m) = m.0 ∙ sym m.1
+one_status (Subtype file left right) o p (inl m) = m.status ∙ sym m.other_status
 one_status (Subtype file left right) o p (inr m) = ap status m.3 ∙ sym (ap status m.4)
 one_status (Minus file left right) o p m = m.status ∙ sym m.other_status
 one_status (Least file name) o p m = ap status m.3 ∙ sym (ap status m.4)

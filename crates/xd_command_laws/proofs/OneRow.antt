@@ -125,7 +125,8 @@ stream_settled texts rose name document P o h (inr a) =
 
 -- ---- `subtype` and `least`
 inclusion_alike : (P : ProgramTree) (L R : Tree) → IsOneRow (λ o p. ProveAlike o p ⊎ CarryAlike separated o p) (AnswersInclusion P L R)
-inclusion_alike P L R o p (inl a) (inl b) = inr (inl (a.1, b.1))
+inclusion_alike P L R o p (inl a) (inl b) =
+    inr (inl (record { program = P; left = L; right = R; status = a.1; other_status = b.1; proves = a.2; other_proves = b.2 }))
 inclusion_alike P L R o p (inl a) (inr b) = let d = (b.1).within in elim (a.0 b.0 d.proper d.left) [ inl f ↦ absurd (d.right f) | inr z ↦ absurd z ]
 inclusion_alike P L R o p (inr a) (inl b) = let d = (a.1).within in elim (b.0 a.0 d.proper d.left) [ inl f ↦ absurd (d.right f) | inr z ↦ absurd z ]
 inclusion_alike P L R o p (inr a) (inr b) = inr (inr (carried separated o p a.0 b.0 ((a.1).least b.0 (b.1).within) ((b.1).least a.0 (a.1).within) a.2 b.2))

@@ -7,11 +7,12 @@ use Rattle.xd_shown.specs.Shown.{defined_names}
 use Rattle.xd_syntax.specs.CheckFaults.{Line}
 use Rattle.xd_syntax.specs.Fits.{Fits as FitsIn}
 use Rattle.xd_syntax.specs.Program.{ProgramTree, names_of}
-use Rattle.xd_syntax.specs.Tree.{Name}
+use Rattle.xd_syntax.specs.Tree.{Name, Tree}
 use Rattle.xd_type_laws.specs.DefinitionsText.{type_definitions}
 use Rattle.xd_type_laws.specs.ReadsBack.{AreReadBack}
 use Rattle.xd_meaning.specs.KeptFaults.{AllPaired}
 use Rattle.xd_laws.specs.SameLines.{IsSameLine}
+use Rattle.xd_inclusion.specs.Inclusion.{ProvesInclusion}
 use Rattle.xd_command.specs.declared.command.Command.{Command}
 use Rattle.xd_command.specs.declared.command.Command.TheVariants.{Subtype, Minus, Least, Check, Types, Precise, Run}
 use Rattle.xd_command.specs.Answer.{IsAnswer}
@@ -22,9 +23,15 @@ use Rattle.xd_command_steps.specs.Laws.{Texts, IsRead}
 
 -- ---- what may differ
 
--- both are proof texts
-abbrev pub ProveAlike : Output → Output → Type 0
-ProveAlike o p = (o.status ≡ 0) × (p.status ≡ 0)
+-- both are proof texts of one inclusion
+pub record ProveAlike (o p : Output) : Type 0 where
+  pub program : ProgramTree
+  pub left : Tree
+  pub right : Tree
+  pub status : o.status ≡ 0
+  pub other_status : p.status ≡ 0
+  pub proves : ProvesInclusion program left right o.text
+  pub other_proves : ProvesInclusion program left right p.text
 
 -- both write a document in this way, and the documents have one size
 abbrev pub CarryAlike : (Document → Output) → Output → Output → Type 0
