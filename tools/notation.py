@@ -165,13 +165,14 @@ class Node:
 class Fault:
     """A place with which no text goes on: its number (2, or 3 for what nests too deep), its token,
     what may stand there in its stead, and what is open, each as the index of the token that opened
-    it, the outermost first."""
+    it, the outermost first. Its sort is "type", "pattern", "expression" or "item", by what goes on
+    there, else "definition"."""
 
-    __slots__ = ("number", "token", "expected", "kinds", "opened")
+    __slots__ = ("number", "token", "expected", "kinds", "opened", "sort")
 
-    def __init__(self, number, token, expected, kinds, opened):
+    def __init__(self, number, token, expected, kinds, opened, sort):
         self.number, self.token, self.expected, self.kinds = number, token, expected, kinds
-        self.opened = opened
+        self.opened, self.sort = opened, sort
 
 
 # What rows are made of, divided by spaces: kinds of tokens, names of other nonterminals, and steps
@@ -246,7 +247,7 @@ CALLED = {
     "EvenMoreThings": "a comma", "TypeBranches": "|", "TypeMore": "|", "PatternBranches": "|",
     "PatternMore": "|", "MoreNames": "|", "MoreTexts": "|", "Clauses": "| and a clause",
     "word": "a name", "AnyWord": "a label", "Param": "a parameter (val x as T)",
-    "Params": "a parameter (val x as T)", "Bound": "as", "Program": "a definition",
+    "Params": "a parameter (val x as T)", "Bound": "as", "Program": "the next definition",
     "TypeExcepted": "a label or a text", "PatternExcepted": "a label or a text",
     "TypeExceptedList": "a label or a text", "PatternExceptedList": "a label or a text",
     "TypeGroup": ("a type", ")"), "TypeContent": ("a type", "]"),
@@ -260,8 +261,14 @@ CALLED = {
 ORDER = [
     "a type", "a pattern", "an expression", "an item", "a parameter (val x as T)", "a name",
     "a label", "a label or a text", "a text", "val", "as", "with", "->", ":", "=", "[", "a comma",
-    "|", "| and a clause", "]", ")", "()", "a definition", "the end", "(", "* + or ?",
+    "|", "| and a clause", "]", ")", "()", "the next definition", "the end", "(", "* + or ?",
 ]
+# What goes on, by how the names of its nonterminals begin.
+SORTS = {
+    "Type": "type", "Pattern": "pattern", "Clause": "expression", "Expr": "expression",
+    "Item": "expression", "MoreItem": "expression", "Paren": "expression", "Thing": "item",
+    "MoreThing": "item", "EvenMoreThing": "item", "Document": "item", "->": "pattern",
+}
 CLOSING = {"]", ")"}
 # Where something around goes on after a fault. What was skipped holds no faults, and neither do the
 # next tokens, as many as this: most often they are of the same one.
@@ -499,29 +506,32 @@ class Parsed:
         kinds, stack, values, opened = self.tokens.kinds, self.stack, self.values, self.open
         at, limit, quiet = 0, self.limit, -1
         while at < end:
-            kind, top = kinds[at], len(stack) - 1
+            kind, whole = kinds[at], len(stack) - 1
+            top = whole
             while True:
                 symbol = stack[top]
-                if symbol.__class__ is not Symbol:
-                    symbol(values, at - 1, opened)
-                    top -= 1
-                    continue
-                found = symbol.get(kind)
-                if found is not None:
-                    break
-                steps = symbol.nothing
-                if steps is None:
-                    break
-                for step in steps:
-                    step(values, at - 1, opened)
+                if symbol.__class__ is Symbol:
+                    found = symbol.get(kind)
+                    if found is not None or symbol.nothing is None:
+                        break
                 top -= 1
             number = 2
             if found is not None:
+                # What is on the stack above is left out here, or done.
+                while whole > top:
+                    above = stack[whole]
+                    if above.__class__ is not Symbol:
+                        above(values, at - 1, opened)
+                    elif above.nothing:
+                        for step in above.nothing:
+                            step(values, at - 1, opened)
+                    whole -= 1
                 if found.__class__ is list:
                     found = found[is_list(kinds, at, found[2])]
-                opens, is_kept, step, more_symbols = found
+                opens, is_kept, step, behind = found
                 if opens > 0 and len(opened) >= limit:
                     number = 3
+                    del stack[top + 1:]
                 else:
                     if opens:
                         if opens > 0:
@@ -530,16 +540,15 @@ class Parsed:
                             opened.pop()
                     if is_kept:
                         values.append(at)
-                    stack[top:] = more_symbols
+                    stack[top:] = behind
                     if step:
                         step(values, at, opened)
                     at += 1
                     continue
-            # (the steps of what is left out here are done, so it is taken away)
             if at >= quiet and len(self.faults) < MOST_FAULTS:
                 expected, possible = self.may_stand(stack)
-                self.faults.append(Fault(number, at, expected, possible, list(opened)))
-            del stack[top + 1:]
+                sort = self.sort(stack)
+                self.faults.append(Fault(number, at, expected, possible, list(opened), sort))
             before, at = at, self.go_on(at, end, number)
             self.skipped.append((before, at))
             quiet = at + QUIET
@@ -557,6 +566,15 @@ class Parsed:
             if symbol.nothing is None:
                 break
         return sorted(called, key=ORDER.index), kinds
+
+    @staticmethod
+    def sort(stack):
+        """What goes on: a type, a pattern, an expression, or an item of a document."""
+        for symbol in reversed(stack):
+            for begin, sort in SORTS.items() if symbol.__class__ is Symbol else ():
+                if symbol.name.startswith(begin):
+                    return sort
+        return "definition"
 
     def drop(self, top, last):
         """Takes symbols from the stack, and puts in nodes for what is missing."""
@@ -577,15 +595,15 @@ class Parsed:
         return tokens.ends[at - 1] <= begin and kinds[at + 1:at + 3] == ["word", sign]
 
     def takes(self, kind):
-        """The place on the stack of what goes on with a token; None if nothing does. Only a closing
-        sign goes out of brackets."""
+        """The place on the stack of what goes on with a token; None if nothing does. A bar and a comma
+        don't go out of brackets."""
         for top in range(len(self.stack) - 1, -1, -1):
             symbol = self.stack[top]
             if symbol.__class__ is not Symbol:
                 continue
             if kind in symbol and symbol[kind].__class__ is tuple:
                 return top
-            if kind not in CLOSING and not CLOSING.isdisjoint(symbol):
+            if (kind == "|" or kind == ",") and not CLOSING.isdisjoint(symbol):
                 return None
         return None
 
