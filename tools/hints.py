@@ -371,7 +371,38 @@ class Explainer:
         return self.tokens.starts[index]
 
     def of_warning(self, told, index):
-        pass
+        """Which clause before takes the documents of one that is never reached, by programs that have
+        only one of those before it."""
+        match = next((it for it in reversed([*self.around(index)]) if it.kind == "match"
+                      and any(part.kind == "clause" and part.parts[0].first <= index <= part.parts[0].last
+                              for part in it.parts[1:])), None)
+        if not match or not self.ask:
+            return
+        clauses = [it for it in match.parts[1:] if it.kind == "clause"]
+        number = next(at for at, it in enumerate(clauses) if it.first <= index <= it.last)
+        begin, (start, _) = self.parsed.range(clauses[0])[0], self.parsed.range(clauses[number])
+        end = self.parsed.range(clauses[number].parts[0])[1]
+        if number > MOST_CLAUSES:
+            return
+        for other in (None, *clauses[:number]):
+            kept = f"{self.text[slice(*self.parsed.range(other))]} | " if other else ""
+            changed = self.text[:begin] + kept + self.text[start:]
+            at, tokens = begin + len(kept), notation.Tokens(changed)
+            for line in self.ask("check", changed)[1].splitlines():
+                found = re.fullmatch(r"(\d+):(\d+): warning 1: .*", line)
+                if found and at <= tokens.offset(int(found[1]), int(found[2])) < at + end - start:
+                    if other:
+                        told.related.append((self.place(other.first), "this clause takes all that could come to it"))
+                    else:
+                        told.hints.append("what stands after match can't be what its pattern takes")
+                    return
+        told.hints.append("the clauses before it together take all that could come to it")
+
+    def around(self, index):
+        """The nodes that a token is in, the outermost first."""
+        for root in self.parsed.roots:
+            if root.first <= index <= root.last:
+                yield from (it for it in notation.nodes_of(root) if it.first <= index <= it.last)
 
     def of_names(self, told, number, index):
         word, kinds, tokens = self.tokens.word(index), self.tokens.kinds, self.tokens
