@@ -12,6 +12,7 @@ pub mod Copies
 pub mod FindsMoreLemmas
 pub mod AreCopiedLemmas
 pub mod AddsMovesLemmas
+mod FewCopiesLemmas
 pub mod IsWrappedLemmas
 pub mod IsJoinedLemmas
 pub mod IsIndexLemmas

@@ -105,7 +105,7 @@ impl Auto {
 
     /// Copies a state of another automaton, which accepts the same.
     ///
-    /// Only the states that it leads to are copied with it.
+    /// Only the states that it leads to are copied with it, each once.
     /// After `NoMemory` old states accept what they did; the automaton may have more states.
     pub fn absorb(&mut self, other: &Auto, state: State) -> Result<State, NoMemory>
         requires { IsState other.now state }
@@ -113,6 +113,7 @@ impl Auto {
         ensures belongs { IfOk result (IsState self.new) }
         ensures copies { IfOk result (λ made. (s : State) → IsState self.new s → length self.old ≤ state_number s → IsReached self.new made s) }
         ensures originals { IfOk result (λ made. (s : State) → IsState self.new s → length self.old ≤ state_number s → IsCopyOf other.now state self.new made s) }
+        ensures few { OnOk result (length self.new ≤ length self.old + length other.now) }
         ensures err { OnErr result (self.new ≡ self.old) }
         ensures extends { Extends self.old self.new }
         ensures keeps { KeepsAccepting self.old self.new }
@@ -165,7 +166,7 @@ fn around(alloc: Global, label: &Label, content: State, rest: State) -> Result<M
 }
 
 /// The part of an automaton that a state leads to: an automaton with the states that are reached
-/// from the answer's state alone, which accepts the same.
+/// from the answer's state alone, which accepts the same. No state is copied twice.
 /// `NoMemory` where there is no room for it; the automaton that is given stays as it is.
 pub fn trim(alloc: Global, auto: &Auto, state: State) -> Result<(Auto, State), NoMemory>
     requires { IsState auto.now state }
@@ -173,6 +174,7 @@ pub fn trim(alloc: Global, auto: &Auto, state: State) -> Result<(Auto, State), N
     ensures belongs { IfOk result (λ made. IsState made.0 made.1) }
     ensures reached { IfOk result (λ made. (s : State) → IsState made.0 s → IsReached made.0 made.1 s) }
     ensures originals { IfOk result (λ made. (s : State) → IsState made.0 s → IsCopyOf auto.now state made.0 made.1 s) }
+    ensures few { IfOk result (λ made. length made.0 ≤ length auto.now) }
 {
     let mut made = Auto::new(alloc);
     let start = made.absorb(auto, state)?;
