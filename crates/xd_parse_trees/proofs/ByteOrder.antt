@@ -37,14 +37,18 @@ after_less : (x w : List ℕ) → R w x ≡ Greater → R x w ≡ Less
 unfolding back
 after_less x w e = nat_list_cmp_total.antisymm x w ∙ ap back e
 
+-- a word before the first of others, as it, or with what comes of those after it
+abbrev placed : List ℕ → List ℕ → List (List ℕ) → Ordering → List (List ℕ)
+placed w x xs o = elim o as (λ _. List (List ℕ)) [ Less ↦ w ∷ (x ∷ xs) | Equal ↦ x ∷ xs | Greater ↦ x ∷ put_word w xs ]
+
 all_put : (P : List ℕ → Type 0) (w : List ℕ) (xs : List (List ℕ)) → P w → AllByRecursion P xs → AllByRecursion P (put_word w xs)
 all_put P w [] p a = (p, tt)
-all_put P w (x ∷ xs) p a = go (R w x) refl (all_put P w xs p a.1)
+all_put P w (x ∷ xs) p a = go (R w x) (all_put P w xs p a.1)
   where
-    go : (o : Ordering) → R w x ≡ o → AllByRecursion P (put_word w xs) → AllByRecursion P (put_word w (x ∷ xs))
-    go Less e i = rw e (p, a)
-    go Equal e i = rw e a
-    go Greater e i = rw e (a.0, i)
+    go : (o : Ordering) → AllByRecursion P (put_word w xs) → AllByRecursion P (placed w x xs o)
+    go Less i = (p, a)
+    go Equal i = a
+    go Greater i = (a.0, i)
 
 below_all : (x y : List ℕ) (ys : List (List ℕ)) → R x y ≡ Less → AllByRecursion (λ z. R y z ≡ Less) ys → AllByRecursion (λ z. R x z ≡ Less) ys
 below_all x y [] h a = tt
@@ -55,19 +59,19 @@ unfolding IsStrictlySortedBy
 sorted_put w [] s = (tt, tt)
 sorted_put w (x ∷ xs) s = go (R w x) refl (sorted_put w xs s.1)
   where
-    go : (o : Ordering) → R w x ≡ o → IsStrictlySortedBy R (put_word w xs) → IsStrictlySortedBy R (put_word w (x ∷ xs))
-    go Less e i = rw e ((e, below_all w x xs e s.0), s)
-    go Equal e i = rw e s
-    go Greater e i = rw e (all_put (λ z. R x z ≡ Less) w xs (after_less x w e) s.0, i)
+    go : (o : Ordering) → R w x ≡ o → IsStrictlySortedBy R (put_word w xs) → IsStrictlySortedBy R (placed w x xs o)
+    go Less e i = ((e, below_all w x xs e s.0), s)
+    go Equal e i = s
+    go Greater e i = (all_put (λ z. R x z ≡ Less) w xs (after_less x w e) s.0, i)
 
 names_put : (w : List ℕ) (xs : List (List ℕ)) (l : List ℕ) → names_label (put_word w xs) l ≡ names_label (w ∷ xs) l
 names_put w [] l = refl
 names_put w (x ∷ xs) l = go (R w x) refl (names_put w xs l)
   where
-    go : (o : Ordering) → R w x ≡ o → names_label (put_word w xs) l ≡ names_label (w ∷ xs) l → names_label (put_word w (x ∷ xs)) l ≡ names_label (w ∷ (x ∷ xs)) l
-    go Less e i = rw e refl
-    go Equal e i = rw e (subst (λ v. names_label (x ∷ xs) l ≡ (pointwise nat_eq v l || names_label (x ∷ xs) l)) (sym (equal_same w x e)) (or_twice (pointwise nat_eq x l) (names_label xs l)))
-    go Greater e i = rw e (ap (λ b. pointwise nat_eq x l || b) i ∙ or_swap (pointwise nat_eq x l) (pointwise nat_eq w l) (names_label xs l))
+    go : (o : Ordering) → R w x ≡ o → names_label (put_word w xs) l ≡ names_label (w ∷ xs) l → names_label (placed w x xs o) l ≡ names_label (w ∷ (x ∷ xs)) l
+    go Less e i = refl
+    go Equal e i = subst (λ v. names_label (x ∷ xs) l ≡ (pointwise nat_eq v l || names_label (x ∷ xs) l)) (sym (equal_same w x e)) (or_twice (pointwise nat_eq x l) (names_label xs l))
+    go Greater e i = ap (λ b. pointwise nat_eq x l || b) i ∙ or_swap (pointwise nat_eq x l) (pointwise nat_eq w l) (names_label xs l)
 
 sorted_order : (ws : List (List ℕ)) → IsStrictlySortedBy R (in_byte_order ws)
 sorted_order [] = unfold IsStrictlySortedBy in tt
@@ -88,7 +92,7 @@ some_put : (w : List ℕ) (xs : List (List ℕ)) → 1 ≤ length (put_word w xs
 some_put w [] = omega arith
 some_put w (x ∷ xs) = go (R w x)
   where
-    go : (o : Ordering) → 1 ≤ length (elim o as (λ _. List (List ℕ)) [ Less ↦ w ∷ (x ∷ xs) | Equal ↦ x ∷ xs | Greater ↦ x ∷ put_word w xs ])
+    go : (o : Ordering) → 1 ≤ length (placed w x xs o)
     go Less = omega arith
     go Equal = omega arith
     go Greater = omega arith
