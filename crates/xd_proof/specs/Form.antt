@@ -76,8 +76,9 @@ goals_from n (b ∷ bs) =
 -- the types of these numbers
 abbrev pub AreNamed : List Tree → List ℕ → List Tree → Type 0
 AreNamed Ts [] [] = Unit {0}
+AreNamed Ts [] (U ∷ Us) = ⊥
+AreNamed Ts (n ∷ ns) [] = ⊥
 AreNamed Ts (n ∷ ns) (U ∷ Us) = (numbered Ts n ≡ Some U) × AreNamed Ts ns Us
-AreNamed Ts _ _ = ⊥
 
 -- the first block names its types by their numbers among these, the second has the types themselves
 pub record NamesTypes (Ts : List Tree) (b : GoalBlock ℕ) (c : GoalBlock Tree) : Type 0 where
@@ -89,8 +90,9 @@ pub record NamesTypes (Ts : List Tree) (b : GoalBlock ℕ) (c : GoalBlock Tree) 
 -- each block of the first list and its block in the second
 abbrev pub NameTypes : List Tree → List (GoalBlock ℕ) → List (GoalBlock Tree) → Type 0
 NameTypes Ts [] [] = Unit {0}
+NameTypes Ts [] (c ∷ cs) = ⊥
+NameTypes Ts (b ∷ bs) [] = ⊥
 NameTypes Ts (b ∷ bs) (c ∷ cs) = NamesTypes Ts b c × NameTypes Ts bs cs
-NameTypes Ts _ _ = ⊥
 
 module _ (TypeReads : List ℕ → Tree → Type 0) where
   -- the lines are those of a proof text of the first format with these goals

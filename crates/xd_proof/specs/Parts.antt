@@ -93,5 +93,6 @@ module _ {A : Type 0} (TypeReads : List ℕ → Tree → Type 0) (Reads : List �
   -- line by line
   abbrev pub SpellParts : List (List ℕ) → List (ProofLine A) → Type 0
   SpellParts [] [] = Unit {0}
+  SpellParts [] (p ∷ ps) = ⊥
+  SpellParts (l ∷ ls) [] = ⊥
   SpellParts (l ∷ ls) (p ∷ ps) = SpellsPart l p × SpellParts ls ps
-  SpellParts _ _ = ⊥
