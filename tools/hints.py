@@ -3,6 +3,7 @@ looks like that people make who come from elsewhere. docs/reading-answers.md say
 import re
 
 import notation
+import shared
 from shared import near
 
 MOST = 4
@@ -678,3 +679,75 @@ class Explainer:
                    for it in node.parts[1:] if it.kind == "clause"]
         scrutinee = self.text[slice(*self.parsed.range(node.parts[0]))]
         return f"(match {scrutinee} with {' | '.join([*clauses, f'Any -> {name}(())'])})"
+
+
+def report(name, text, output, places=None):
+    """Writes what the program answered of a file that isn't accepted, as tools/explain does. A fault
+    without a place is one of a name on the command line."""
+    source, explainer = shared.Source(name, text, places), Explainer(text, shared.ask_of_text)
+    for line in output.splitlines():
+        lacking = re.fullmatch(r"fault 15: type (\w+) is not defined", line)
+        if lacking:
+            print(f"{name}: {line}")
+            for hint in explainer.nearest(lacking[1], explainer.names.types):
+                print(f"  = {hint}")
+        elif not LINE.fullmatch(line):
+            print(line)
+    for told in explainer.told(output):
+        source.report(told.start, told.message, told.hints, told.related)
+
+
+def of_document(data, text, at):
+    """What a slip in a document looks like, at the place where no document goes on; text is data as far
+    as it is UTF-8."""
+    if at == len(text) and len(text.encode()) < len(data):
+        byte = data[len(text.encode())]
+        if data[:2] in (b"\xff\xfe", b"\xfe\xff"):
+            return ["the file is UTF-16: save it as UTF-8"]
+        return [f"the byte 0x{byte:02X} isn't UTF-8: if the file is Latin-1, iconv -f latin1 -t utf-8 mends it"]
+    front = text[:2000].lstrip("\ufeff \t\r\n")
+    here, before = text[at:at + 40], text[max(at - 100, 0):at]
+    if here.startswith("\ufeff"):
+        return ["the file begins with a byte order mark: save it without"]
+    if here.startswith("<"):
+        return ["this is XML: tools/xml in makes a document of it" if front.startswith("<") else
+                "this looks like XML: an element is written a[..]"]
+    if front[:1] in ("{", "[") and not before.strip():
+        return ['this is JSON: what is "key": "value" there is key["value"] here']
+    if re.match(r"(type|fun)\s", front) and not notation.Parsed(text[:100_000]).faults[:1]:
+        return ["this is a program, and no document: FILE and TYPE stand before DOC"]
+    tokens = notation.Tokens(text[at:at + 100_000])
+    why = tokens.broken.get(0)
+    if why == "escape":
+        wrong = re.search(r'\\[^"\\nt]', text[at:])
+        return [f'{wrong[0] if wrong else "this"} is no escape: there are \\" \\\\ \\n \\t, and a backslash is written \\\\']
+    if why == "open text":
+        return ["the text that begins here isn't closed"]
+    if why == "open comment":
+        return ["the comment that begins here isn't closed"]
+    word = re.match(rf"({notation.WORD})(\s*)(.?)", here)
+    if here[:1] == "'":
+        return ["a text has double quotes"]
+    if here[:1] == ";":
+        return ["items have commas between them"]
+    if here[:1] and here[0] in "\u201c\u201d":
+        return ['a text has straight quotes, "']
+    if word and word[3] == "[" and word[2]:
+        return ["a label is directly followed by its ["]
+    if word and re.search(r'["\]]\s*$', before):
+        return ["items have commas between them"] if word[3] == "[" else []
+    if word and word[3] != "[":
+        return [f'a word alone is no item: a text is written "{word[1]}", an element {word[1]}[]']
+    if here[:1].isdigit():
+        return [f'a text has quotes, a number too: "{re.match("[0-9.]*[0-9]", here)[0]}"']
+    if here.startswith(("//", "#", "/*", "--")):
+        return [COMMENT]
+    if here[:1] in ('"',) and re.search(r'["\]]\s*$', before):
+        return ["items have commas between them"]
+    if here.startswith("(") and not re.match(r"\(\s*\)", here):
+        return ["a document has no parentheses but ()"]
+    if here.startswith("("):
+        return ["() is the whole of a document or of a content, and no item"]
+    if not front:
+        return ["the empty document is written ()"]
+    return []

@@ -150,44 +150,102 @@ def near(word, known, cutoff=0.6, most=3):
     return sorted(difflib.get_close_matches(word, known, most, cutoff))
 
 
+class Places:
+    """Where a file was written that another tool made, by the map that stands beside it (FILE.map), or
+    by the one that is named."""
+
+    def __init__(self, made, path=None):
+        self.rows = []
+        path, is_named = path or f"{made}.map", path is not None
+        if made == "-" and not is_named or not is_named and not os.path.exists(path):
+            return
+        lines = read(path).split("\n")
+        if lines[0] != "xduce places 1":
+            fail(f"{path}: no map of places", UNREAD)
+        name, end = None, None
+        folder = os.path.dirname(os.path.abspath(path))
+        for line in lines[1:]:
+            kind, _, rest = line.partition(" ")
+            if kind == "file":
+                name = re.sub(r"\\(.)", lambda it: "\n" if it[1] == "n" else it[1], rest)
+                name = name if name == "-" else os.path.relpath(os.path.join(folder, name))
+            elif kind == "end":
+                end = rest
+            elif kind:
+                self.rows.append((kind, name, rest))
+        if made != "-" and end != str(os.path.getsize(made)):
+            print(f"{path}: made for another text of {made}", file=sys.stderr)
+            self.rows = []
+
+    def of(self, line, column):
+        """The file, the line and the column that a place was written at; None where it has none."""
+        low, high = 0, len(self.rows)
+        while low < high:
+            middle = (low + high) // 2
+            if pair(self.rows[middle][0]) <= (line, column):
+                low = middle + 1
+            else:
+                high = middle
+        if not low:
+            return None
+        made, name, source = self.rows[low - 1]
+        is_copy = source.startswith("= ")
+        (begin, from_column), (its_line, its_column) = pair(made), pair(source[2 * is_copy:])
+        if not is_copy:
+            return name, its_line, its_column
+        return name, its_line + line - begin, its_column + column - from_column if line == begin else column
+
+
+def pair(place):
+    """The line and the column of a place as it is written."""
+    line, _, column = place.partition(":")
+    return int(line), int(column)
+
+
 class Source:
-    """A file that messages speak of. Where it was made from another one, a map tells the places of
-    that, and messages show them in its stead."""
+    """A file that messages speak of. Where it was made from others, and there is a map of places,
+    messages show the places of those."""
 
     def __init__(self, name, text, places=None):
-        self.name, self.text, self.places = name, text, read_places(places) if places else None
+        self.name, self.text, self.places, self.others = name, text, Places(name, places), {}
+
+    def text_of(self, name):
+        """The text of a file that this one was made from, as far as it can be read."""
+        if name not in self.others:
+            try:
+                with open(name, "rb") as file:
+                    self.others[name] = decoded(file.read())
+            except OSError:
+                self.others[name] = None
+        return self.others[name]
 
     def origin(self, at):
-        """The name, the text and the offset that are shown for an offset."""
-        return self.places and self.places.of(at) or (self.name, self.text, at)
-
-    def shown(self, at, message):
-        """A message at a place."""
-        return shown(*self.origin(at), message)
+        """The name, the place and the lines to show of an offset, and where it is here if it was
+        made elsewhere."""
+        line, column = place_of(self.text, at)
+        written = self.places.rows and self.places.of(line, column)
+        if not written:
+            return self.name, (line, column), excerpt(self.text, at), None
+        name, *place = written
+        text = self.text_of(name)
+        lines = text and excerpt(text, min(offset_of(text, *place), len(text)))
+        return name, tuple(place), lines, f"at {line}:{column} of {self.name}"
 
     def place(self, at):
-        name, text, at = self.origin(at)
-        return "{}:{}:{}".format(name, *place_of(text, at))
+        name, place, _, _ = self.origin(at)
+        return "{}:{}:{}".format(name, *place)
 
-    def excerpt(self, at):
-        return excerpt(*self.origin(at)[1:])
-
-
-def read_places(name):
-    """The map of places in a file that tools/xml writes."""
-    return Places(read(name))
-
-
-class Places:
-    """A map from a document to the XML that it was made from."""
-
-    def __init__(self, text):
-        self.text = text
-
-    def of(self, at):
-        """The name, the text and the offset that a place of the document was made from; None where
-        nothing is known of it."""
-        return None
+    def report(self, at, message, more=(), related=()):
+        """Writes a message at a place, what is said beside it, and the other places that matter."""
+        name, place, lines, where = self.origin(at)
+        print("{}:{}:{}: {}".format(name, *place, message), *filter(None, [lines]), sep="\n")
+        for line in more:
+            print(f"  = {line}")
+        for other, what in related:
+            name, place, lines, _ = self.origin(other)
+            print("  = {}: {}:{}:{}".format(what, name, *place), *filter(None, [lines]), sep="\n")
+        if where:
+            print(f"  = {where}")
 
 
 def shown(name, text, at, message):
