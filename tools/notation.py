@@ -8,6 +8,7 @@ that belongs to something around, or at a definition that begins a line; so ther
 faults, and there is always a tree. What is left out in it are nodes of the kind "missing".
 Nothing here calls itself for each level of nesting.
 """
+import array
 import bisect
 import re
 
@@ -53,7 +54,8 @@ class Tokens:
     __slots__ = ("text", "kinds", "starts", "ends", "comments", "broken", "lines")
 
     def __init__(self, text):
-        self.text, self.kinds, self.starts, self.ends = text, [], [], []
+        self.text, self.kinds = text, []
+        self.starts, self.ends = array.array("q"), array.array("q")
         self.comments, self.broken, self.lines = [], {}, None
         kinds, starts, ends = self.kinds.append, self.starts.append, self.ends.append
         at = 0
@@ -480,10 +482,11 @@ class Parsed:
     """What was read: its tokens, its definitions (or its one tree), and its faults in order.
 
     `expected` and `opened` are what may stand at the end, and what is open there: of a text that is
-    read up to some place, those of the place.
+    read up to some place, those of the place. Of a document there need be no tree: then it is read up
+    to its first fault.
     """
 
-    def __init__(self, text, start="Program", until=None):
+    def __init__(self, text, start="Program", until=None, has_tree=True):
         self.text = text
         self.tokens = text if text.__class__ is Tokens else Tokens(text)
         if self.tokens is text:
@@ -492,10 +495,12 @@ class Parsed:
         self.stack, self.values, self.open = [SYMBOLS[start]], [], []
         self.limit = len(self.tokens.kinds) if start == "Document" else DEEPEST
         end = len(self.tokens.kinds) if until is None else self.index_of(until)
+        self.has_tree = has_tree
         self.read(end)
         self.expected, self.possible = self.may_stand(self.stack)
         self.opened = list(self.open)
-        self.drop(0, end - 1)
+        if has_tree:
+            self.drop(0, end - 1)
         self.roots = self.values
 
     def index_of(self, at):
@@ -504,7 +509,7 @@ class Parsed:
 
     def read(self, end):
         kinds, stack, values, opened = self.tokens.kinds, self.stack, self.values, self.open
-        at, limit, quiet = 0, self.limit, -1
+        at, limit, quiet, has_tree = 0, self.limit, -1, self.has_tree
         while at < end:
             kind, whole = kinds[at], len(stack) - 1
             top = whole
@@ -521,7 +526,8 @@ class Parsed:
                 while whole > top:
                     above = stack[whole]
                     if above.__class__ is not Symbol:
-                        above(values, at - 1, opened)
+                        if has_tree:
+                            above(values, at - 1, opened)
                     elif above.nothing:
                         for step in above.nothing:
                             step(values, at - 1, opened)
@@ -538,10 +544,10 @@ class Parsed:
                             opened.append(at)
                         else:
                             opened.pop()
-                    if is_kept:
+                    if is_kept and has_tree:
                         values.append(at)
                     stack[top:] = behind
-                    if step:
+                    if step and has_tree:
                         step(values, at, opened)
                     at += 1
                     continue
@@ -549,6 +555,8 @@ class Parsed:
                 expected, possible = self.may_stand(stack)
                 sort = self.sort(stack)
                 self.faults.append(Fault(number, at, expected, possible, list(opened), sort))
+            if not has_tree:
+                return
             before, at = at, self.go_on(at, end, number)
             self.skipped.append((before, at))
             quiet = at + QUIET
