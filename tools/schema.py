@@ -86,6 +86,10 @@ def names_of(names):
 class Interleaved(types.Meaning):
     """The meaning of types that may have ("&", types): items in any order that keeps the order of each of the types."""
 
+    def __init__(self, found):
+        self.ranks = {}
+        super().__init__(found)
+
     def can_be_empty(self, type_):
         return all(map(self.can_be_empty, type_[1])) if type_[0] == "&" else super().can_be_empty(type_)
 
@@ -113,10 +117,16 @@ class Interleaved(types.Meaning):
             return [type_] if self.single(self.found[type_[1]]) is not None else None
         return [type_] if kind in ("elem", "text") else None
 
-    def flat(self, type_):
+    def rank(self, type_):
+        """A number for each part, so that parts have an order."""
+        return self.ranks.setdefault(type_, len(self.ranks))
+
+    def flat(self, type_, seen=()):
         if type_[0] == "name" and self.found[type_[1]][0] == "&":
-            return self.flat(self.found[type_[1]])
-        return [inner for it in type_[1] for inner in self.flat(it)] if type_[0] == "&" else [type_]
+            if type_[1] in seen:
+                raise types.Malformed(f"type {type_[1]} comes back to itself with no item before it")
+            return self.flat(self.found[type_[1]], (*seen, type_[1]))
+        return [inner for it in type_[1] for inner in self.flat(it, seen)] if type_[0] == "&" else [type_]
 
     def interleaved(self, parts):
         """An interleaving in a form that equal ones share: what is repeated stands first, as one repetition."""
@@ -127,7 +137,8 @@ class Interleaved(types.Meaning):
                 stars.update(dict.fromkeys(items))
             elif part != NOTHING:
                 others.append(part)
-        found = ([("*", types.joined("alt", tuple(stars)))] if stars else []) + sorted(others, key=repr)
+        others.sort(key=self.rank)
+        found = ([("*", types.joined("alt", tuple(stars)))] if stars else []) + others
         return NOTHING if not found else found[0] if len(found) == 1 else ("&", tuple(found))
 
 
@@ -137,7 +148,8 @@ class Expansion:
     def __init__(self, found, tell):
         self.found, self.tell = dict(found), tell
         self.meaning = Interleaved({"Any": types.ANY, **found})
-        self.made, self.more = {}, {}
+        # Names of what is left, and of items; definitions that aren't told yet; how often a name was wanted.
+        self.made, self.more, self.count, self.taken = {}, {}, {}, set()
 
     def all(self):
         """The definitions without interleavings, with those that were made behind the one that wants them."""
@@ -160,9 +172,11 @@ class Expansion:
         if state[0] != "&":
             return self.plain(state, base)
         if state not in self.made:
-            for it in self.states(state, base):
+            states = self.states(state, base)
+            for it in states:
                 self.made[it] = self.fresh(base)
-            for it in [it for it in self.made if self.made[it] not in self.found]:
+                self.more[self.made[it]] = None
+            for it in states:
                 self.found[self.made[it]] = self.more[self.made[it]] = self.definition(it, base)
         return "name", self.made[state]
 
@@ -205,11 +219,12 @@ class Expansion:
         return "name", self.made[type_]
 
     def fresh(self, base):
-        number, name = 1, f"{base}_1"
-        while name in self.found or name in self.made.values() or name in types.KEYWORDS:
-            number += 1
-            name = f"{base}_{number}"
-        return name
+        while True:
+            self.count[base] = self.count.get(base, 0) + 1
+            name = f"{base}_{self.count[base]}"
+            if name not in self.found and name not in self.taken:
+                self.taken.add(name)
+                return name
 
 
 # Programs.
