@@ -10,6 +10,7 @@ import subprocess
 import sys
 import urllib.parse
 
+import notation
 import shared
 
 XML = "http://www.w3.org/XML/1998/namespace"
@@ -167,7 +168,7 @@ class Rules:
     """Which white space the types of a program keep."""
 
     def __init__(self, text):
-        found = shared.types.definitions(text)
+        found = notation.definitions(text)
         self.meaning, self.contents, self.reached, self.mixed = shared.types.Meaning(found), {}, {}, {}
         self.start = Content(self, tuple(("name", name) for name in found if name != "Any"))
 
@@ -205,7 +206,7 @@ class Rules:
     def takes_text(self, state):
         heads = self.meaning.heads(state)
         items = [head for head in heads if head[0] == "elem" and not is_attribute(head[1])]
-        rests = [rest for kind, class_, _, rest in heads if kind == "text" and class_ == shared.types.ALL]
+        rests = [rest for kind, class_, _, rest in heads if kind == "text" and class_ == notation.ALL]
         if self.meaning.can_be_empty(state) and not any(map(self.meaning.can_be_empty, rests)):
             return False
         behind = {tuple(head) for rest in rests for head in self.meaning.heads(rest)}

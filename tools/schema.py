@@ -10,13 +10,22 @@ import re
 import sys
 
 import mapping
+import notation
 import shared
 
 types = shared.types
-NOTHING, TEXT = types.EMPTY, ("text", types.ALL)
+NOTHING, TEXT = notation.EMPTY, ("text", notation.ALL)
 # A program has so many bytes at most; so many names are made of one interleaving, so many choices of attributes.
 LONGEST, MOST_NAMES, MOST_CHOICES = 1 << 20, 4096, 512
 WIDTH = 100
+
+
+joined = notation.joined
+
+
+def class_of(names, is_except):
+    """A class of labels or of texts: these, or all but these."""
+    return tuple(sorted(set(names), key=str.encode)), is_except
 
 
 class TooLong(Exception):
@@ -124,7 +133,7 @@ class Interleaved(types.Meaning):
     def flat(self, type_, seen=()):
         if type_[0] == "name" and self.found[type_[1]][0] == "&":
             if type_[1] in seen:
-                raise types.Malformed(f"type {type_[1]} comes back to itself with no item before it")
+                raise notation.Malformed(f"type {type_[1]} comes back to itself with no item before it")
             return self.flat(self.found[type_[1]], (*seen, type_[1]))
         return [inner for it in type_[1] for inner in self.flat(it, seen)] if type_[0] == "&" else [type_]
 
@@ -138,7 +147,7 @@ class Interleaved(types.Meaning):
             elif part != NOTHING:
                 others.append(part)
         others.sort(key=self.rank)
-        found = ([("*", types.joined("alt", tuple(stars)))] if stars else []) + others
+        found = ([("*", joined("alt", tuple(stars)))] if stars else []) + others
         return NOTHING if not found else found[0] if len(found) == 1 else ("&", tuple(found))
 
 
@@ -147,7 +156,7 @@ class Expansion:
 
     def __init__(self, found, tell):
         self.found, self.tell = dict(found), tell
-        self.meaning = Interleaved({"Any": types.ANY, **found})
+        self.meaning = Interleaved({"Any": notation.ANY, **found})
         # Names of what is left, and of items; definitions that aren't told yet; how often a name was wanted.
         self.made, self.more, self.count, self.taken = {}, {}, {}, set()
 
@@ -165,7 +174,7 @@ class Expansion:
         if kind == "&":
             return self.interleaving(self.meaning.interleaved(type_[1]), base)
         if kind in ("seq", "alt"):
-            return types.joined(kind, tuple(self.plain(it, base) for it in type_[1]))
+            return joined(kind, tuple(self.plain(it, base) for it in type_[1]))
         return type_ if kind in ("name", "text") else (*type_[:-1], self.plain(type_[-1], base))
 
     def interleaving(self, state, base):
@@ -204,10 +213,10 @@ class Expansion:
             if stars and rest == state:
                 continue
             item = (kind, class_) if kind == "text" else self.item((kind, class_, self.plain(content, base)), base)
-            rows.append(types.joined("seq", (item, self.interleaving(rest, base))))
+            rows.append(joined("seq", (item, self.interleaving(rest, base))))
         if self.meaning.can_be_empty(state):
             rows.append(NOTHING)
-        return types.joined("seq", (*(self.plain(it, base) for it in stars), types.joined("alt", tuple(rows))))
+        return joined("seq", (*(self.plain(it, base) for it in stars), joined("alt", tuple(rows))))
 
     def item(self, type_, base):
         """An item, by a name where it is long, since it stands in many places."""
@@ -346,19 +355,19 @@ class Schema:
         """The class of labels of elements that a class of names means."""
         kind = names[0]
         if kind == "name":
-            return types.class_of([self.table.element(*names[1:])], False)
+            return class_of([self.table.element(*names[1:])], False)
         if kind == "or":
             found = [self.labels_of(it, where) for it in names[1]]
             if all(not is_except for _, is_except in found):
-                return types.class_of([it for some, _ in found for it in some], False)
+                return class_of([it for some, _ in found for it in some], False)
             excepted = set.intersection(*(set(some) for some, is_except in found if is_except))
-            return types.class_of(excepted - {it for some, is_except in found if not is_except for it in some}, True)
+            return class_of(excepted - {it for some, is_except in found if not is_except for it in some}, True)
         excepted = {label for it in names[-1] for label in self.excepted(it, where)}
         if kind == "all":
             excepted |= {self.table.element(name, local) for name, them in self.known.items() if name != names[1] for local in them}
             self.tell(where, f"any name of the namespace {names[1] or 'that is none'} is any name that the schema hasn't in another one")
         self.tell(where, "an element of any name may also be an attribute that the schema doesn't name")
-        return types.class_of(excepted | self.attribute_labels, True)
+        return class_of(excepted | self.attribute_labels, True)
 
     def excepted(self, names, where):
         if names[0] == "name":
@@ -406,7 +415,7 @@ class Schema:
         self.tell(where, "an attribute of any name may also be an element with a text that the schema doesn't name")
         if names[0] == "all" or any(it[0] != "name" for it in names[-1]):
             self.tell(where, "which namespace attributes of any name are of isn't told")
-        return [({}, (("elem", types.class_of(excepted | self.labels | {"_"}, True), text),), ("empty",))]
+        return [({}, (("elem", class_of(excepted | self.labels | {"_"}, True), text),), ("empty",))]
 
     def repeated(self, pattern, where, may_lack):
         """The alternatives of a repetition that has attributes: those of any name as often as they like, others once at most."""
@@ -423,7 +432,7 @@ class Schema:
 
     @staticmethod
     def either(one, two):
-        return types.joined("alt", tuple(dict.fromkeys([*(one[1] if one[0] == "alt" else [one]), *(two[1] if two[0] == "alt" else [two])])))
+        return joined("alt", tuple(dict.fromkeys([*(one[1] if one[0] == "alt" else [one]), *(two[1] if two[0] == "alt" else [two])])))
 
     def both(self, kind, one, two):
         wild = tuple(dict.fromkeys((*one[1], *two[1])))
@@ -471,15 +480,15 @@ class Schema:
         kind = pattern[0]
         if kind == "choice":
             found = [self.text_of(it, where) for it in pattern[1]]
-            if ("text", types.ALL) in found:
+            if ("text", notation.ALL) in found:
                 return TEXT
-            return "text", types.class_of([name for it in found for name in it[1][0]], False)
+            return "text", class_of([name for it in found for name in it[1][0]], False)
         if kind == "ref":
             return self.text_of(self.defined[pattern[1]], where)
         if kind == "value":
-            return "text", types.class_of([pattern[1]], False)
+            return "text", class_of([pattern[1]], False)
         if kind == "empty":
-            return "text", types.class_of([""], False)
+            return "text", class_of([""], False)
         self.tell_text(pattern, where)
         return TEXT
 
@@ -499,7 +508,7 @@ class Schema:
             local = definition.rpartition(" ")[2]
             word = re.sub("[^A-Za-z0-9_]", "_", local)
             word = f"_{word}" if word[:1].isdigit() else word
-            taken = {*self.names.values(), "String", "Any", *types.KEYWORDS}
+            taken = {*self.names.values(), "String", "Any", *notation.KEYWORDS}
             name, number = word, 1
             while name in taken:
                 number += 1
@@ -517,7 +526,7 @@ class Schema:
         if kind == "choice":
             return self.choice(pattern[1], where, is_mixed)
         if kind == "group":
-            return types.joined("seq", tuple(self.content(it, where, is_mixed) for it in pattern[1]))
+            return joined("seq", tuple(self.content(it, where, is_mixed) for it in pattern[1]))
         if kind == "interleave":
             return "&", tuple(self.content(it, where, True) for it in pattern[1])
         if kind == "more":
@@ -529,9 +538,9 @@ class Schema:
                 return self.content(self.defined[pattern[1]], where, True)
             return "name", self.type_of(pattern[1])
         if kind == "value":
-            return ("text", types.class_of([pattern[1]], False)) if pattern[1] else NOTHING
+            return ("text", class_of([pattern[1]], False)) if pattern[1] else NOTHING
         if kind == "none":
-            self.types.setdefault("None", ("elem", types.class_of(["None"], False), ("name", "None")))
+            self.types.setdefault("None", ("elem", class_of(["None"], False), ("name", "None")))
             return "name", "None"
         self.tell_text(pattern, where)
         return ("?", TEXT) if kind == "list" or pattern[2] else TEXT
@@ -540,9 +549,9 @@ class Schema:
         found = [self.content(it, where, is_mixed) for it in patterns if it != ("empty",)]
         texts = [it for it in found if it[0] == "text" and not it[1][1]]
         if len(texts) > 1:
-            one = "text", types.class_of([name for it in texts for name in it[1][0]], False)
+            one = "text", class_of([name for it in texts for name in it[1][0]], False)
             found = [it for it in found if it not in texts] + [one]
-        body = types.joined("alt", tuple(dict.fromkeys(found)))
+        body = joined("alt", tuple(dict.fromkeys(found)))
         if len(found) == len(patterns) or ("empty",) not in patterns:
             return body
         return self.repetition("?", body)
@@ -554,7 +563,7 @@ class Schema:
             return ("*" if type_[0] != sign else sign), type_[1]
         if sign != "?" and type_[0] == "alt":
             inner = [it[1] if it[0] in ("?", "*") else it for it in type_[1]]
-            return ("*" if any(it[0] in ("?", "*") for it in type_[1]) else sign), types.joined("alt", tuple(inner))
+            return ("*" if any(it[0] in ("?", "*") for it in type_[1]) else sign), joined("alt", tuple(inner))
         return (sign, type_) if type_ != NOTHING else NOTHING
 
     def element(self, pattern, where):
@@ -564,19 +573,19 @@ class Schema:
             rows.setdefault(content, []).append(self.row(slots, wild))
         found = []
         for content, its in rows.items():
-            front = "row", types.joined("alt", tuple(dict.fromkeys(its)))
-            found.append(types.joined("seq", (front if front[1] != NOTHING else NOTHING, self.content(content, where))))
-        return "elem", class_, types.joined("alt", tuple(found))
+            front = "row", joined("alt", tuple(dict.fromkeys(its)))
+            found.append(joined("seq", (front if front[1] != NOTHING else NOTHING, self.content(content, where))))
+        return "elem", class_, joined("alt", tuple(found))
 
     def row(self, slots, wild):
         """Attributes in the order of their labels, with those of any name between them."""
-        between = ("*", types.joined("alt", wild)) if wild else NOTHING
+        between = ("*", joined("alt", wild)) if wild else NOTHING
         row = [between]
         for label in sorted(slots):
             text, is_optional = slots[label]
-            item = "elem", types.class_of([label], False), text
+            item = "elem", class_of([label], False), text
             row += [("?", item) if is_optional else item, between]
-        return types.joined("seq", tuple(row))
+        return joined("seq", tuple(row))
 
     def name_rows(self):
         """Gives attributes that several elements have alike a name."""
@@ -600,7 +609,7 @@ class Schema:
                     given[type_] = self.name_of(f"attributes {len(given) + 1} attributes_{len(given) + 1}")
                 return "name", given[type_]
             if kind in ("seq", "alt"):
-                return types.joined(kind, tuple(map(named, type_[1])))
+                return joined(kind, tuple(map(named, type_[1])))
             if kind == "&":
                 return kind, tuple(map(named, type_[1]))
             return type_ if kind in ("name", "text") else (*type_[:-1], named(type_[-1]))
