@@ -235,18 +235,21 @@ def local(base, system, public=None):
 class Places:
     """Writes a map of places; docs/xml.md has its form."""
 
-    def __init__(self, path, source):
-        self.file = open(path, "w", encoding="utf-8")
-        name = source if source == "-" or os.path.isabs(source) else os.path.relpath(source, os.path.dirname(os.path.abspath(path)))
-        self.file.write("xduce places 1\n")
-        self.name(name)
-        self.write = self.file.write
+    def __init__(self, path):
+        try:
+            self.file = open(path, "w", encoding="utf-8")
+        except OSError as error:
+            fail(f"{path}: {error.strerror}", 4)
+        self.folder, self.write = os.path.dirname(os.path.abspath(path)), self.file.write
+        self.write("xduce places 1\n")
 
-    def name(self, name):
-        self.file.write("file " + name.replace("\\", "\\\\").replace("\n", "\\n") + "\n")
+    def name_of(self, source):
+        """What comes was made of this file."""
+        name = source if source == "-" or os.path.isabs(source) else os.path.relpath(source, self.folder)
+        self.write("file " + name.replace("\\", "\\\\").replace("\n", "\\n") + "\n")
 
     def end(self, size):
-        self.file.write(f"end {size}\n")
+        self.write(f"end {size}\n")
         self.file.close()
 
 
