@@ -1,0 +1,899 @@
+"use strict";
+// The page: two texts, a question, and the answer of the program. What it writes of the texts it writes as text, never as HTML.
+
+const by = id => document.getElementById(id);
+const DATA = JSON.parse(by("data").textContent);
+const PROGRAM = "program.x", DOCUMENT = "document.xd", PROOF = "proof";
+const LIMITS = {program: 1048576, document: 16777216};
+// Longer texts are not coloured, and longer answers are cut where they are shown.
+const COLOURED = 120000, SHOWN = 100000;
+const PAUSE = 250, WAIT = 700, PROBE = 5000;
+const coder = new TextEncoder();
+const MEGABYTES = `${DATA.memory / 1048576} MB`;
+
+/** An element with a class and with what it holds: texts, elements, or nothing. */
+function element(name, its = {}, ...inner) {
+  const made = Object.assign(document.createElement(name), its);
+  made.append(...inner.filter(it => it !== null && it !== undefined));
+  return made;
+}
+
+const counted = number => number.toLocaleString("en");
+
+// ---------------------------------------------------------------- The notation
+
+const WORD = "[A-Za-z_][A-Za-z0-9_]*";
+const TOKEN = new RegExp([
+  /(?<comment>\(\*[^]*?(?:\*\)|$))/, /(?<string>"(?:[^"\\]|\\[^])*(?:"|$))/, /(?<list>\((?=\s*\w+(?:\s*\|\s*\w+)*\s*\)\s*\[))/,
+  new RegExp(`(?<label>${WORD}(?=\\[)|~(?=\\[))`), new RegExp(`(?<word>${WORD})`), /(?<arrow>->)/, /(?<sign>[^\s\w])/, /\s+|\w+/,
+].map(it => it.source).join("|"), "gy");
+const KEYWORDS = new Set(["type", "fun", "val", "as", "match", "with"]);
+const CLOSES = {"(": ")", "[": "]"};
+
+/** The tokens of a text: where each begins and ends, its class of colour, and what it is. */
+function tokens(text) {
+  const found = [];
+  let before = "", inList = false;
+  for (const match of text.matchAll(TOKEN)) {
+    const groups = match.groups, it = match[0], begin = match.index, end = begin + it.length;
+    let kind = null;
+    if (groups.comment) kind = "comment";
+    else if (groups.string) kind = /^"(?:[^"\\]|\\["\\nt])*"$/.test(it) ? "string" : "string wrong";
+    else if (groups.label) kind = "label";
+    else if (groups.word) {
+      if (inList) kind = "label";
+      else if (KEYWORDS.has(it)) kind = "keyword";
+      else if (before === "type") kind = "defined";
+      else if (before === "fun") kind = "defined call";
+      else if (before === "val") kind = "bound";
+      else if (/^\s*\(/.test(text.slice(end, end + 20)) && text[end] === "(") kind = "call";
+      else kind = /^[A-Z]/.test(it) ? "type" : null;
+    } else if (groups.arrow) kind = "keyword";
+    if (groups.list) inList = true;
+    else if (inList && it === ")") inList = false;
+    if (it.trim()) {
+      found.push({begin, end, kind, text: it, isSign: Boolean(groups.sign || groups.list), before});
+      if (!groups.comment) before = it;
+    }
+  }
+  return found;
+}
+
+/** The partner of each bracket, by where it begins; -1 where it has none. */
+function partners(found) {
+  const open = [], pairs = new Map();
+  for (const {begin, text, isSign} of found) {
+    if (!isSign) continue;
+    if (CLOSES[text]) open.push([begin, CLOSES[text]]);
+    else if (text === ")" || text === "]") {
+      const last = open.at(-1);
+      if (last && last[1] === text) {
+        open.pop();
+        pairs.set(last[0], begin).set(begin, last[0]);
+      } else pairs.set(begin, -1);
+    }
+  }
+  for (const [begin] of open) pairs.set(begin, -1);
+  return pairs;
+}
+
+/** A document in lines that are indented, where it is too long for one. */
+function spread(text) {
+  let lines = "", depth = 0, column = 0;
+  const items = tokens(text);
+  const widths = new Map(), open = [];
+  for (const {begin, end, text: it} of items) {
+    if (it === "[") open.push(begin);
+    else if (it === "]" && open.length) widths.set(open.at(-1), end - open.pop());
+  }
+  const broken = [];
+  const feed = () => { lines += "\n" + "  ".repeat(depth); column = 2 * depth; };
+  for (const {begin, text: it} of items) {
+    if (it === "]" && broken.pop()) { depth--; feed(); }
+    lines += it;
+    column += it.length;
+    if (it === "[") {
+      const isBroken = (widths.get(begin) ?? 0) + column > 80;
+      broken.push(isBroken);
+      if (isBroken) { depth++; feed(); }
+    } else if (it === "," && (broken.at(-1) ?? text.length > 80)) feed();
+  }
+  return lines;
+}
+
+// ---------------------------------------------------------------- The panes
+
+class Pane {
+  constructor(id, name) {
+    Object.assign(this, {name, root: by(id), limit: LIMITS[id], marks: [], tips: new Map(), rows: [], found: [], pairs: new Map(), lit: ""});
+    for (const it of ["textarea", "pre", ".editor", ".numbers", ".state", ".note"]) this[it.replace(/^\./, "")] = this.root.querySelector(it);
+    this.textarea.addEventListener("input", () => { this.marks = []; this.tips.clear(); this.draw(); changed(); });
+    this.textarea.addEventListener("pointermove", event => this.point(event));
+    this.textarea.addEventListener("pointerleave", () => this.caret());
+    this.textarea.addEventListener("keydown", event => this.key(event));
+    this.root.querySelector("input[type=file]").addEventListener("change", event => {
+      this.open(event.target.files[0]);
+      event.target.value = "";
+    });
+    const over = isOver => event => {
+      event.preventDefault();
+      this.root.classList.toggle("over", isOver);
+      return event;
+    };
+    this.root.addEventListener("dragover", over(true));
+    this.root.addEventListener("dragleave", over(false));
+    this.root.addEventListener("drop", event => {
+      over(false)(event);
+      const file = event.dataTransfer.files[0];
+      if (file) this.open(file);
+      else if (event.dataTransfer.getData("text")) this.set(event.dataTransfer.getData("text"));
+    });
+  }
+
+  get text() { return this.textarea.value; }
+
+  get bytes() { return coder.encode(this.text); }
+
+  set(text, isQuiet = false) {
+    this.textarea.value = text;
+    this.marks = [];
+    this.tips.clear();
+    this.draw();
+    this.editor.scrollTop = this.editor.scrollLeft = 0;
+    this.textarea.setSelectionRange(0, 0);
+    if (!isQuiet) changed();
+  }
+
+  say(text) { this.note.replaceChildren(text); }
+
+  tell(text, kind = "") {
+    this.state.textContent = text;
+    this.state.className = `state ${kind}`;
+  }
+
+  async open(file) {
+    if (!file) return;
+    if (file.size > this.limit) {
+      this.say(`${file.name} has ${counted(file.size)} bytes; ${this.name === PROGRAM ? "a program" : "a document"} has at most ${counted(this.limit)}. It wasn't opened.`);
+      return;
+    }
+    let bytes;
+    try {
+      bytes = new Uint8Array(await file.arrayBuffer());
+    } catch {
+      this.say(`${file.name} can't be read: is it a folder?`);
+      return;
+    }
+    try {
+      this.set(new TextDecoder("utf-8", {fatal: true, ignoreBOM: true}).decode(bytes));
+      this.opened = `${file.name} is opened.`;
+      this.say(this.opened);
+    } catch {
+      this.say(`${file.name} isn't text in UTF-8, so it wasn't opened. Save it as UTF-8: iconv -f latin1 -t utf-8 ${file.name}`);
+    }
+  }
+
+  /** The offset of a place, and the place of an offset. (Columns count characters, as the program does, and not halves of pairs.) */
+  offset(line, column) {
+    let at = 0;
+    for (; line > 1; line--) at = this.text.indexOf("\n", at) + 1;
+    for (; column > 1; column--) at += this.text.codePointAt(at) > 0xffff ? 2 : 1;
+    return at;
+  }
+
+  place(at) {
+    const begin = this.text.lastIndexOf("\n", at - 1) + 1;
+    return [this.text.slice(0, begin).split("\n").length, [...this.text.slice(begin, at)].length + 1];
+  }
+
+  /** The token that begins at an offset, or one character. */
+  at(begin) {
+    const token = this.found.find(it => it.begin === begin);
+    return token ?? {begin, end: Math.min(begin + 1, this.text.length), text: this.text.slice(begin, begin + 1)};
+  }
+
+  mark(marks) {
+    this.marks = marks;
+    this.draw();
+  }
+
+  /** Puts a place into sight. */
+  reveal(begin) {
+    const [line, column] = this.place(begin), height = this.pre.scrollHeight / Math.max(1, this.text.split("\n").length);
+    this.editor.scrollTop = Math.max(0, line * height - this.editor.clientHeight / 2);
+    this.editor.scrollLeft = column > 60 ? this.editor.scrollWidth * (column - 30) / Math.max(...this.text.split("\n").map(it => it.length)) : 0;
+  }
+
+  /** The same, with the caret there. */
+  show(begin) {
+    this.textarea.focus({preventScroll: true});
+    this.textarea.setSelectionRange(begin, begin);
+    this.root.scrollIntoView({block: "nearest"});
+    this.reveal(begin);
+    this.caret();
+  }
+
+  // ------------------------------------------------ What is drawn under the text
+
+  draw() {
+    const text = this.text, isPlain = text.length > COLOURED;
+    this.root.classList.toggle("plain", isPlain);
+    this.found = isPlain ? [] : tokens(text);
+    this.pairs = partners(this.found);
+    if (isPlain) this.pre.replaceChildren();
+    else this.paint();
+    this.caret();
+  }
+
+  /** The lines as spans with classes; a line is made anew only where it differs. */
+  paint() {
+    const text = this.text, spans = [];
+    for (const {begin, end, kind} of this.found) if (kind) spans.push([begin, end, kind]);
+    for (const {begin, end, kind} of this.marks) spans.push([begin, Math.max(end, begin + 1), `${kind}-mark`]);
+    for (const at of this.lit ? this.lit.split(" ").map(Number) : []) {
+      spans.push([at, at + 1, this.pairs.get(at) < 0 ? "unmatched" : "bracket"]);
+    }
+    const edges = new Map();
+    const edge = (at, it, by) => { if (!edges.has(at)) edges.set(at, []); edges.get(at).push([it, by]); };
+    for (const [begin, end, kind] of spans) { edge(begin, kind, 1); edge(end, kind, -1); }
+    const cuts = [...edges.keys()].sort((a, b) => a - b), now = new Map();
+    let next = 0, begin = 0;
+    const lines = text.split("\n"), rows = [];
+    const kinds = () => [...now].filter(([, count]) => count > 0).map(([it]) => it).join(" ");
+    for (const line of lines) {
+      const end = begin + line.length, row = [];
+      let at = begin;
+      for (; next < cuts.length && cuts[next] <= end; next++) {
+        if (cuts[next] > at) row.push([text.slice(at, cuts[next]), kinds()]);
+        at = cuts[next];
+        for (const [it, by] of edges.get(at)) now.set(it, (now.get(it) ?? 0) + by);
+      }
+      if (at < end) row.push([text.slice(at, end), kinds()]);
+      else if (kinds().includes("mark")) row.push([" ", kinds()]);
+      rows.push(row);
+      begin = end + 1;
+    }
+    const keys = rows.map(row => JSON.stringify(row));
+    while (this.pre.childElementCount > rows.length) this.pre.lastElementChild.remove();
+    rows.forEach((row, number) => {
+      if (this.rows[number] === keys[number] && this.pre.children[number]) return;
+      const made = element("div", {className: "row"}, ...row.map(([part, kind]) => kind ? element("span", {className: kind}, part) : part));
+      if (this.pre.children[number]) this.pre.children[number].replaceWith(made);
+      else this.pre.append(made);
+    });
+    this.rows = keys;
+    const marked = new Map(this.marks.map(({begin, kind}) => [this.place(begin)[0], kind]));
+    const key = `${lines.length} ${JSON.stringify([...marked])}`;
+    if (key !== this.numbered) {
+      this.numbered = key;
+      const parts = [];
+      let plain = "";
+      lines.forEach((_, it) => {
+        const kind = marked.get(it + 1);
+        if (!kind) { plain += `${it + 1}\n`; return; }
+        parts.push(plain, element(kind === "warning" ? "i" : "b", {}, `${kind === "warning" ? "!" : "●"}${it + 1}`), "\n");
+        plain = "";
+      });
+      this.numbers.replaceChildren(...parts, plain);
+    }
+  }
+
+  // ------------------------------------------------ What is said of the place at the caret or the pointer
+
+  /** What there is to say of an offset: a mark, or what a variable may be. */
+  said(at) {
+    const mark = this.marks.find(it => at >= it.begin && at <= it.end);
+    if (mark) return [element("strong", {}, `${this.place(mark.begin).join(":")} `), mark.text, ...mark.hints.map(it => `. ${it}`)];
+    for (const [begin, {word, parts}] of this.tips) {
+      if (at >= begin && at <= begin + word.length) return parts.map(it => typeof it === "string" ? it : element("code", {}, it.code));
+    }
+    return null;
+  }
+
+  caret() {
+    const at = this.textarea.selectionStart, is = document.activeElement === this.textarea;
+    const near = is ? [at, at - 1].find(it => this.pairs.has(it)) : undefined;
+    const partner = near === undefined ? -1 : this.pairs.get(near);
+    const lit = near === undefined ? "" : partner < 0 ? `${near}` : `${near} ${partner}`;
+    if (lit !== this.lit) {
+      this.lit = lit;
+      if (this.text.length <= COLOURED) this.paint();
+    }
+    const said = this.said(at);
+    if (said) this.note.replaceChildren(...said);
+    else if (is) this.say(`Line ${this.place(at)[0]}, column ${this.place(at)[1]}`);
+    else this.say(this.opened ?? "");
+  }
+
+  point(event) {
+    if (!this.marks.length && !this.tips.size) return;
+    const line = this.pre.children[0];
+    if (!line) return;
+    const box = this.textarea.getBoundingClientRect(), height = line.getBoundingClientRect().height;
+    const style = getComputedStyle(this.textarea);
+    const row = Math.floor((event.clientY - box.top - parseFloat(style.paddingTop)) / height);
+    const lines = this.text.split("\n");
+    if (row < 0 || row >= lines.length) return;
+    this.width ??= (() => {
+      const ruler = element("span", {textContent: "m".repeat(100)});
+      this.pre.append(ruler);
+      const width = ruler.getBoundingClientRect().width / 100;
+      ruler.remove();
+      return width;
+    })();
+    const column = Math.floor((event.clientX - box.left - parseFloat(style.paddingLeft)) / this.width);
+    const begin = lines.slice(0, row).join("\n").length + (row ? 1 : 0);
+    const said = column >= 0 && column <= lines[row].length ? this.said(begin + column) : null;
+    if (said) this.note.replaceChildren(...said);
+    else this.caret();
+  }
+
+  key(event) {
+    if (event.key === "F8") {
+      event.preventDefault();
+      const at = this.textarea.selectionStart, marks = [...this.marks].sort((a, b) => a.begin - b.begin);
+      const next = event.shiftKey ? marks.reverse().find(it => it.begin < at) : marks.find(it => it.begin > at);
+      if (next ?? marks[0]) this.show((next ?? marks[0]).begin);
+    }
+  }
+}
+
+// ---------------------------------------------------------------- The program, in a worker
+
+/** What asks the program. One question is asked at a time; what is no longer wanted is ended with its worker. */
+class Asker {
+  constructor(program) {
+    this.program = program;
+    this.code = URL.createObjectURL(new Blob([by("worker").textContent], {type: "text/javascript"}));
+    this.waiting = new Map();
+    this.number = 0;
+    this.start();
+  }
+
+  start() {
+    this.worker = new Worker(this.code);
+    this.worker.onmessage = ({data}) => {
+      const done = this.waiting.get(data.number);
+      this.waiting.delete(data.number);
+      done?.(data.found);
+    };
+    this.worker.onerror = event => {
+      event.preventDefault();
+      this.stop({status: -1, text: event.message ?? "the worker ended", milliseconds: 0});
+    };
+    this.worker.postMessage({program: this.program});
+  }
+
+  /** Ends what is under way; those who wait for it get null, or what is given. */
+  stop(found = null) {
+    if (!this.waiting.size) return;
+    this.worker.terminate();
+    const waiting = [...this.waiting.values()];
+    this.waiting.clear();
+    this.start();
+    waiting.forEach(done => done(found));
+  }
+
+  post(message) {
+    return new Promise(done => {
+      this.waiting.set(++this.number, done);
+      this.worker.postMessage({number: this.number, ...message});
+    });
+  }
+
+  /** The status and the output of the program on these words, over pairs of a name and bytes. */
+  answer(words, texts) { return this.post({words, texts}); }
+
+  probe(probe) { return this.post({probe}); }
+}
+
+// ---------------------------------------------------------------- Hints
+
+/** What a slip of syntax looks like, by what stands at the place and before it. */
+function syntaxHint(text, at) {
+  const before = text.slice(0, at).trimEnd(), here = text.slice(at);
+  for (const {here: one, before: other, hint} of DATA.slips) {
+    if ((!one || new RegExp(`^(?:${one})`).test(here)) && (!other || new RegExp(`(?:${other})$`).test(text.slice(0, at)) || new RegExp(`(?:${other})$`).test(before))) return hint;
+  }
+  return null;
+}
+
+/** How many letters have to change between two words. */
+function distance(one, other) {
+  let row = [...other, ""].map((_, it) => it);
+  for (let i = 1; i <= one.length; i++) {
+    const next = [i];
+    for (let j = 1; j <= other.length; j++) next[j] = Math.min(row[j] + 1, next[j - 1] + 1, row[j - 1] + (one[i - 1] !== other[j - 1]));
+    row = next;
+  }
+  return row[other.length];
+}
+
+const nearest = (word, words) => [...new Set(words)].filter(it => it !== word && distance(word, it) <= (word.length < 4 ? 1 : Math.max(2, word.length / 3)))
+  .sort((a, b) => distance(word, a) - distance(word, b) || (a < b ? -1 : 1)).slice(0, 3);
+
+const defined = (pane, keyword) => pane.found.filter(it => it.before === keyword && !KEYWORDS.has(it.text)).map(it => it.text);
+
+function hintsOf(pane, number, isWarning, words, at) {
+  if (isWarning) return ["The clauses before take all that may come here, or nothing that it takes may come"];
+  if (number === 2) return [syntaxHint(pane.text, at)].filter(Boolean);
+  const found = /(?:type|function|variable) (\w+) is not defined/.exec(words);
+  if (found) {
+    const keyword = {5: "type", 6: "fun", 7: "val"}[number];
+    const near = nearest(found[1], [...defined(pane, keyword), ...number === 5 ? ["String", "Any"] : []]);
+    const more = near.length ? [`Did you mean ${joined(near)}?`] : [];
+    if (number !== 5 && defined(pane, "type").includes(found[1])) more.push(`${found[1]} is a type`);
+    if (number === 5 && !near.length) more.push(`An element is written ${found[1]}[], a text "${found[1]}"`);
+    return more;
+  }
+  return DATA.hints[number] ? [DATA.hints[number]] : [];
+}
+
+const joined = (words, most = 12) => {
+  const shown = words.length > most ? [...words.slice(0, most), `${words.length - most} more`] : words;
+  return shown.length > 1 ? `${shown.slice(0, -1).join(", ")} or ${shown.at(-1)}` : shown.join("");
+};
+
+/** The faults and warnings of an answer, with their places as offsets. */
+function messages(pane, output) {
+  const found = [];
+  for (const line of output.split("\n")) {
+    const match = /^(\d+):(\d+): ((fault|warning) (\d+): .*)$/.exec(line);
+    if (match) {
+      const begin = pane.offset(Number(match[1]), Number(match[2])), isWarning = match[4] === "warning";
+      found.push({
+        place: `${match[1]}:${match[2]}`, text: match[3], kind: match[4], begin, end: Math.max(begin + 1, pane.at(begin).end),
+        hints: hintsOf(pane, Number(match[5]), isWarning, match[3], begin),
+      });
+    } else if (/^fault /.test(line)) found.push({place: null, text: line, kind: "fault", hints: []});
+  }
+  return found;
+}
+
+// ---------------------------------------------------------------- Questions and answers
+
+const line = (text, kind = "") => element("p", {className: kind}, text);
+const shownText = text => element("pre", {}, text.length > SHOWN ? `${text.slice(0, SHOWN)}\n.. ${counted(text.length - SHOWN)} characters more` : text);
+
+/** A text of the answer, with a button that makes it the document. */
+function asDocument(text) {
+  return [shownText(spread(text)), element("button", {type: "button", onclick: () => { theDocument.opened = null; theDocument.set(`${spread(text)}\n`); }}, "Make this the document")];
+}
+
+function shownMessages(found) {
+  return element("ul", {}, ...found.flatMap(it => [
+    element("li", {},
+      it.place ? element("button", {type: "button", className: it.kind === "warning" ? "odd" : "bad", onclick: () => theProgram.show(it.begin)}, `${it.place}: ${it.text}`) : line(it.text, "bad"),
+      ...it.hints.map(hint => element("p", {className: "hint"}, hint))),
+  ]));
+}
+
+/** What a status says that isn't an answer to the question; null for the others. */
+function refusal({status, text}) {
+  switch (status) {
+    case -1: return [line("The browser ended the run.", "first bad"), line(text)];
+    case 2: return [line("The words have no form of a command. (A run makes 1 to 10,000,000 calls.)", "first bad")];
+    case 3: return [line(text, "first bad")];
+    case 4: return [line("The output is longer than 64 MB, and isn't shown.", "first bad")];
+    case 5: return [line(`There isn't memory enough: the program has at most ${MEGABYTES} here. Nothing is written.`, "first bad")];
+    case 10: return [line(`${text.trim()}. A program has at most ${counted(LIMITS.program)} bytes, a document ${counted(LIMITS.document)}.`, "first bad")];
+    default: return null;
+  }
+}
+
+const QUESTIONS = {
+  check: {
+    title: "Is the program right?", words: () => ["check", PROGRAM], texts: [],
+    show: ({text}, found) => [
+      line(found.some(it => it.kind === "fault") ? `The program has ${found.length === 1 ? "a fault" : `${found.length} faults or warnings`}.`
+        : `Accepted: no match of it fails, and what it writes is of the declared types.${found.length ? " There is a warning." : ""}`,
+      `first ${found.some(it => it.kind === "fault") ? "bad" : "good"}`),
+      found.length ? shownMessages(found) : null,
+    ],
+  },
+  stream: {
+    title: "Does the document fit?", left: "The document is one of", words: ({left}) => ["stream", PROGRAM, left, DOCUMENT, "65536"], texts: [DOCUMENT],
+    show: showStream,
+  },
+  subtype: {
+    title: "Is each A a B?", left: "Each", right: "is one of", words: ({left, right}) => ["subtype", PROGRAM, left, right], texts: [],
+    show: showSubtype,
+  },
+  types: {
+    title: "What are variables?", words: () => ["types", PROGRAM], texts: [], show: showTypes,
+  },
+  run: {
+    title: "Run the program", fuel: true, words: ({fuel}) => ["run", PROGRAM, DOCUMENT, fuel], texts: [DOCUMENT],
+    show: ({status, text}) => status === 8 ? [line("The document isn't one that main takes.", "first bad"), line("Ask whether it fits main's type: that tells the place.")]
+      : status === 9 ? [line("The program needs more calls than it was allowed.", "first bad")]
+      : status === 7 ? malformed(text)
+      : [line("The program writes:", "first good"), ...asDocument(text.trimEnd())],
+  },
+  least: {
+    title: "A least document", left: "A least document of", words: ({left}) => ["least", PROGRAM, left], texts: [],
+    show: ({status, text}) => status === 6 ? [line("No document fits this type.", "first bad")] : [line("A least document of it:", "first good"), ...asDocument(text.trimEnd())],
+  },
+};
+
+function markDocument(text, message) {
+  const [, row, column] = /^(\d+):(\d+): /.exec(text);
+  const begin = theDocument.offset(Number(row), Number(column));
+  const mark = {begin, end: Math.max(begin + 1, theDocument.at(begin).end), kind: "fault", text: message(begin), hints: []};
+  theDocument.mark([mark]);
+  if (isFresh) theDocument.reveal(begin);
+  theDocument.tell(`stops at ${row}:${column}`, "fault");
+  return mark;
+}
+
+const tokenShown = at => {
+  if (at >= theDocument.text.length) return "the end";
+  const it = theDocument.at(at), next = theDocument.text[it.end];
+  const whole = /^\w+$/.test(it.text) && next === "[" ? `${it.text}[` : it.text;
+  return whole.length > 40 ? `${whole.slice(0, 40)}..` : whole;
+};
+
+/** What a document that isn't written as one is told. */
+function malformed(text) {
+  const mark = markDocument(text, at => `${tokenShown(at)} is no document's`);
+  const here = theDocument.text.slice(mark.begin);
+  const slip = DATA.documents.find(it => new RegExp(`^(?:${it.here})`).test(here));
+  if (slip) mark.hints.push(slip.hint);
+  return [element("p", {className: "first bad"}, element("button", {type: "button", onclick: () => theDocument.show(mark.begin)}, text.trim()), ` `, mark.text), slip ? line(slip.hint) : null];
+}
+
+/** What may stand at a place of the document: the program is asked for the document up to there with each thing that might. */
+async function mayStand(type, begin, place) {
+  const front = theDocument.text.slice(0, begin);
+  const classes = new Set(theProgram.found.filter(it => /\blabel\b/.test(it.kind ?? "") && it.text !== "~").map(it => `${it.text}[`));
+  const strings = new Set(theProgram.found.filter(it => it.kind === "string").map(it => it.text));
+  const words = ["stream", PROGRAM, type, DOCUMENT, "65536"], texts = [[PROGRAM, theProgram.bytes]];
+  const other = `other${classes.size}_[`, otherText = `"other ${strings.size}"`;
+  const items = [other, ...classes, otherText, ...strings];
+  const ask = (front, place, tokens) => asker.probe({words, texts, front, place, tokens, milliseconds: PROBE});
+  const first = await ask(front, place, [...items, ",", "]", "", "()"]);
+  if (!first) return null;
+  const named = may => {
+    const labels = may.filter(it => it.endsWith("[")), some = may.filter(it => it.startsWith('"'));
+    return [...labels.includes(other) ? ["any element"] : labels, ...some.includes(otherText) ? ["a text"] : some];
+  };
+  const found = named(first.may);
+  if (first.may.includes("()") && !first.may.includes("")) found.push("()");
+  if (first.may.includes("]")) found.push("]");
+  if (first.may.includes("")) found.push("the end");
+  if (first.may.includes(",")) {
+    const [row, column] = place.split(":");
+    const second = await ask(`${front},`, `${row}:${Number(column) + 1}`, items);
+    if (!second) return null;
+    found.unshift(`a comma and ${joined(named(second.may))}`);
+  }
+  const comma = /,\s*$/.exec(front);
+  if (comma) {
+    const instead = await ask(front.slice(0, comma.index), theDocument.place(comma.index).join(":"), ["]", ""]);
+    if (!instead) return null;
+    found.instead = instead.may.length ? ` In place of the comma may stand ${instead.may.includes("]") ? "]" : "the end"}.` : "";
+  }
+  return {found, isWhole: first.isWhole};
+}
+
+async function showStream({status, text}, _, {left}) {
+  if (status === 0) {
+    theDocument.tell(`a document of ${left}`, "good");
+    return [line(`Yes: the document is one of ${left}.`, "first good")];
+  }
+  const place = /^\d+:\d+/.exec(text)[0];
+  let shown, mark;
+  if (status === 7) {
+    shown = malformed(text);
+    mark = theDocument.marks[0];
+  } else {
+    mark = markDocument(text, at => `${tokenShown(at)} can't stand here`);
+    shown = [element("p", {className: "first bad"}, element("button", {type: "button", onclick: () => theDocument.show(mark.begin)}, place), ` ${mark.text}: no document of ${left} goes on like this.`)];
+  }
+  const more = line("..", "hint");
+  mayStand(left, mark.begin, place).then(may => {
+    if (!may) { more.textContent = ""; return; }
+    const it = tokenShown(mark.begin), near = it.endsWith("[") ? nearest(it, may.found.filter(that => that.endsWith("["))) : [];
+    const said = may.found.length ? `Here may stand ${joined(may.found)}${may.isWhole ? "" : ", and perhaps more"}.` : "Nothing may stand here.";
+    more.textContent = `${said}${may.found.instead ?? ""}${near.length ? ` Did you mean ${joined(near)}?` : ""}`;
+    more.className = "";
+    mark.hints.push(more.textContent);
+    theDocument.caret();
+  });
+  return [...shown, more];
+}
+
+async function showSubtype({status, text}, _, {left, right}) {
+  if (status === 0) {
+    const verified = await asker.answer(["verify", PROGRAM, PROOF], [[PROGRAM, theProgram.bytes], [PROOF, coder.encode(text)]]);
+    if (!verified) return null;
+    return [
+      line(`Yes: each ${left} is one of ${right}.`, "first good"),
+      line(verified.status === 0 ? `The proof below has ${counted(text.split("\n").length - 1)} lines. verify has looked at each: ${verified.text.trim()}` : verified.text),
+      element("details", {}, element("summary", {}, "The proof"), shownText(text)),
+    ];
+  }
+  const minus = await asker.answer(["minus", PROGRAM, left, right], [[PROGRAM, theProgram.bytes]]);
+  if (!minus) return null;
+  return [
+    line(`No. This is a document of ${left} and none of ${right}; no smaller one is:`, "first bad"),
+    ...asDocument(text.replace(/^no: /, "").trimEnd()),
+    minus.status === 0 ? line(`All documents of ${left} alone are those of the first type here:`) : null,
+    minus.status === 0 ? shownText(minus.text.trimEnd()) : null,
+  ];
+}
+
+/** Each variable's place, word and types, from an answer of types or precise. */
+function blocks(output) {
+  const found = new Map();
+  let last = null;
+  for (const it of output.split("\n")) {
+    const match = /^(\d+):(\d+): variable (\w+) as (\w+)$/.exec(it);
+    if (match) found.set(`${match[1]}:${match[2]}`, last = {word: match[3], name: match[4], lines: []});
+    else if (last && it.startsWith("type ")) last.lines.push(it);
+  }
+  for (const block of found.values()) {
+    const only = block.lines.length === 1 && block.lines[0].replace(`type ${block.name} = `, "");
+    block.shown = only === `none[${block.name}]` ? "nothing: no document comes here" : only && !new RegExp(`\\b${block.name}\\b`).test(only) ? only : block.lines.join("\n");
+  }
+  return found;
+}
+
+/** Asks what variables may be, and keeps it for the pointer and the caret. */
+async function lookAtVariables() {
+  const texts = [[PROGRAM, theProgram.bytes]];
+  const whole = await asker.answer(["types", PROGRAM], texts);
+  if (!whole || whole.status) return null;
+  const first = await asker.answer(["precise", PROGRAM], texts);
+  if (!first || first.status) return null;
+  const all = blocks(whole.text), precise = blocks(first.text);
+  theProgram.tips.clear();
+  for (const [place, {word, shown}] of all) {
+    const [row, column] = place.split(":").map(Number), other = precise.get(place)?.shown ?? "";
+    theProgram.tips.set(theProgram.offset(row, column), {
+      word, parts: [`${word} may be `, {code: shown}, ...other !== shown ? ["; by first matches ", {code: other}] : []],
+    });
+  }
+  return {all, precise};
+}
+
+async function showTypes({text}, found) {
+  const looked = await lookAtVariables();
+  if (!looked) return null;
+  if (!looked.all.size) return [line("No pattern of the program has a variable.", "first")];
+  const rows = [...looked.all].map(([place, {word, shown}]) => {
+    const [row, column] = place.split(":").map(Number), other = looked.precise.get(place)?.shown ?? "";
+    const go = element("button", {type: "button", onclick: () => theProgram.show(theProgram.offset(row, column))}, place);
+    return element("tr", {}, element("td", {}, go), element("td", {}, element("code", {}, word)), element("td", {}, element("code", {}, shown)),
+      element("td", {}, other === shown ? "the same" : element("code", {}, other)));
+  });
+  const head = element("tr", {}, ...["Place", "Variable", "By any way of its pattern", "By the first match"].map(it => element("th", {}, it)));
+  return [line("Point at a variable in the program, or put the caret there, to see the same below it.", "first"), found.length ? shownMessages(found) : null, element("table", {}, head, ...rows)];
+}
+
+// (fresh texts, of an example or a link, are shown where their first mark is)
+let theProgram, theDocument, asker, question = "check", timer = 0, asked = 0, isFresh = false, wanted = {};
+
+const chosen = () => ({left: by("left").value, right: by("right").value, fuel: by("fuel").value.replace(/[,\s]/g, "")});
+
+/** The names of types in the lists. What was chosen stays, as long as it is there. */
+function offerTypes() {
+  const names = [...new Set(defined(theProgram, "type")), "Any", "String"];
+  ["left", "right"].forEach((id, number) => {
+    const list = by(id);
+    if ([...list.options].map(it => it.value).join() !== names.join()) list.replaceChildren(...names.map(it => element("option", {value: it}, it)));
+    list.value = names.includes(wanted[id]) ? wanted[id] : names[number];
+  });
+}
+
+function changed() {
+  isFresh = false;
+  clearTimeout(timer);
+  asker?.stop();
+  timer = setTimeout(inquire, PAUSE);
+}
+
+function running(text) {
+  by("running").textContent = text;
+  by("stop").hidden = !text;
+}
+
+function answered(parts, words, found) {
+  by("answer").replaceChildren(...parts.filter(Boolean));
+  by("answer").scrollTop = 0;
+  const time = found ? ` · status ${found.status} · ${found.milliseconds < 10 ? found.milliseconds.toFixed(1) : Math.round(found.milliseconds)} ms` : "";
+  by("command").replaceChildren("The same in a shell: ", element("code", {}, `xduce ${words.join(" ")}`), time);
+}
+
+/** Asks whether the program is right, marks its faults, and asks the chosen question. */
+async function inquire() {
+  if (!asker) return;
+  clearTimeout(timer);
+  asker.stop();
+  const number = ++asked, isStale = () => number !== asked, its = QUESTIONS[question], begin = performance.now();
+  offerTypes();
+  by("left-part").hidden = !its.left;
+  by("right-part").hidden = !its.right;
+  by("fuel-part").hidden = !its.fuel;
+  if (its.left) by("left-part").firstElementChild.textContent = its.left;
+  if (its.right) by("right-part").firstElementChild.textContent = its.right;
+  const choice = chosen(), words = its.words(choice);
+  const clock = setInterval(() => {
+    const seconds = (performance.now() - begin) / 1000;
+    if (seconds * 1000 > WAIT) running(`The program runs: ${seconds.toFixed(0)} s`);
+  }, 200);
+  try {
+    theDocument.mark([]);
+    theDocument.tell("");
+    const all = {[PROGRAM]: theProgram.bytes, [DOCUMENT]: theDocument.bytes};
+    const checked = await asker.answer(["check", PROGRAM], [[PROGRAM, all[PROGRAM]]]);
+    if (isStale() || !checked) return;
+    const found = messages(theProgram, checked.text), faults = found.filter(it => it.kind === "fault").length, warnings = found.length - faults;
+    theProgram.mark(found.filter(it => it.place));
+    if (isFresh && theProgram.marks.length) theProgram.reveal(theProgram.marks[0].begin);
+    if (refusal(checked)) theProgram.tell("no answer", "fault");
+    else theProgram.tell(faults ? `${faults} fault${faults > 1 ? "s" : ""}` : warnings ? `accepted, ${warnings} warning${warnings > 1 ? "s" : ""}` : "accepted", faults ? "fault" : warnings ? "warning" : "good");
+    const answer = question === "check" ? checked : await asker.answer(words, [PROGRAM, ...its.texts].map(it => [it, all[it]]));
+    if (isStale() || !answer) return;
+    const told = answer.status === 1 ? messages(theProgram, answer.text) : [];
+    const parts = refusal(answer) ?? (answer.status === 1 && question !== "check"
+      ? [line("The program has faults, which come first.", "first bad"), shownMessages(told)]
+      : await its.show(answer, found, choice));
+    if (isStale() || !parts) return;
+    answered(parts, words, answer);
+    clearInterval(clock);
+    running("");
+    if (!faults && question !== "types") await lookAtVariables();
+    if (!isStale()) theProgram.caret();
+  } catch (fault) {
+    answered([line("The page has a fault of its own, and goes on with the next change.", "first bad"), line(String(fault))], words, null);
+  } finally {
+    clearInterval(clock);
+    if (!isStale()) running("");
+  }
+}
+
+function stop() {
+  asked++;
+  asker.stop();
+  running("");
+  answered([line("Stopped. The page asks again after the next change.", "first odd")], QUESTIONS[question].words(chosen()), null);
+}
+
+function choose(name) {
+  question = QUESTIONS[name] ? name : "check";
+  for (const it of document.querySelectorAll("#questions input")) it.checked = it.value === question;
+}
+
+// ---------------------------------------------------------------- Examples and links
+
+function example(number) {
+  const it = DATA.examples[number];
+  wanted = {left: it.left, right: it.right};
+  choose(it.question);
+  for (const [pane, text] of [[theProgram, it.program], [theDocument, it.document]]) {
+    pane.opened = null;
+    pane.set(text, true);
+  }
+  isFresh = true;
+  inquire();
+}
+
+const through = async (bytes, stream) => new Uint8Array(await new Response(new Blob([bytes]).stream().pipeThrough(stream)).arrayBuffer());
+
+async function link() {
+  const held = {program: theProgram.text, document: theDocument.text, question, ...chosen()};
+  const bytes = await through(coder.encode(JSON.stringify(held)), new CompressionStream("gzip"));
+  let text = "";
+  for (let at = 0; at < bytes.length; at += 8192) text += String.fromCharCode(...bytes.subarray(at, at + 8192));
+  const address = btoa(text).replaceAll("+", "-").replaceAll("/", "_").replace(/=+$/, "");
+  link.own = `#1.${address}`;
+  location.hash = link.own;
+  let said = `The address of this page has both texts now, in ${counted(location.href.length)} characters`;
+  try {
+    await navigator.clipboard.writeText(location.href);
+    said += ", and is copied";
+  } catch {
+    // (a page may lack the right to copy)
+  }
+  theProgram.say(location.href.length > 8000 ? `${said}. Some programs cut an address of that length.` : `${said}.`);
+}
+
+/** Takes the texts of the address; whether it has some. */
+async function follow() {
+  const hash = location.hash;
+  if (!hash || hash === link.own) return Boolean(hash);
+  try {
+    if (!hash.startsWith("#1.")) throw new Error("another form");
+    const bytes = Uint8Array.from(atob(hash.slice(3).replaceAll("-", "+").replaceAll("_", "/")), it => it.charCodeAt(0));
+    const held = JSON.parse(new TextDecoder("utf-8", {fatal: true}).decode(await through(bytes, new DecompressionStream("gzip"))));
+    if (typeof held.program !== "string" || typeof held.document !== "string") throw new Error("no texts");
+    wanted = {left: held.left, right: held.right};
+    if (/^\d+$/.test(held.fuel)) by("fuel").value = held.fuel;
+    choose(held.question);
+    theProgram.set(held.program, true);
+    theDocument.set(held.document, true);
+    by("examples").value = "";
+    theProgram.say("The texts are those of the link.");
+    isFresh = true;
+    inquire();
+    return true;
+  } catch {
+    follow.isCut = true;
+    return false;
+  }
+}
+
+// ---------------------------------------------------------------- The beginning
+
+/** A module of nothing but a memory with 64-bit addresses. */
+const WITH_64_BITS = new Uint8Array([0, 97, 115, 109, 1, 0, 0, 0, 5, 3, 1, 4, 0]);
+
+async function load() {
+  const has = globalThis.WebAssembly && WebAssembly.validate(WITH_64_BITS) && globalThis.DecompressionStream;
+  if (!has) return null;
+  const bytes = Uint8Array.from(atob(by("module").textContent.trim()), it => it.charCodeAt(0));
+  return WebAssembly.compile(await through(bytes, new DecompressionStream("gzip")));
+}
+
+function lay() {
+  by("made").textContent = DATA.made;
+  by("trust").textContent = DATA.trust;
+  by("examples").append(element("option", {value: ""}, "choose one"), ...DATA.examples.map((it, number) => element("option", {value: number}, it.title)));
+  by("examples").addEventListener("change", event => { if (event.target.value !== "") example(Number(event.target.value)); });
+  for (const [name, {title}] of Object.entries(QUESTIONS)) {
+    const choice = element("input", {type: "radio", name: "question", value: name, checked: name === question});
+    choice.addEventListener("change", () => { choose(name); inquire(); });
+    by("questions").append(element("label", {}, choice, title));
+  }
+  for (const id of ["left", "right"]) by(id).addEventListener("change", () => { wanted[id] = by(id).value; inquire(); });
+  by("fuel").addEventListener("input", changed);
+  by("stop").addEventListener("click", stop);
+  by("link").addEventListener("click", link);
+  by("theme").addEventListener("click", () => {
+    const isDark = document.documentElement.classList.contains("dark") || !document.documentElement.classList.contains("light") && matchMedia("(prefers-color-scheme: dark)").matches;
+    document.documentElement.className = isDark ? "light" : "dark";
+  });
+  document.addEventListener("selectionchange", () => [theProgram, theDocument].forEach(it => document.activeElement === it.textarea && it.caret()));
+  document.addEventListener("keydown", event => {
+    if (event.key === "Escape" && !by("stop").hidden) stop();
+    if (event.key === "Enter" && (event.ctrlKey || event.metaKey)) { event.preventDefault(); inquire(); }
+  });
+  addEventListener("dragover", event => event.preventDefault());
+  addEventListener("drop", event => event.preventDefault());
+  addEventListener("hashchange", async () => {
+    if (!await follow() && follow.isCut) theProgram.say("This link is cut or changed, so its texts can't be had. What stood here stays.");
+    follow.isCut = false;
+  });
+}
+
+async function begin() {
+  theProgram = new Pane("program", PROGRAM);
+  theDocument = new Pane("document", DOCUMENT);
+  lay();
+  by("running").textContent = "The program is made ready..";
+  let program = null, fault = "";
+  try {
+    program = await load();
+  } catch (it) {
+    fault = ` (${it})`;
+  }
+  by("running").textContent = "";
+  if (program) {
+    asker = new Asker(program);
+    globalThis.xduce = (words, texts) => asker.answer(words, texts);
+  }
+  if (!await follow()) {
+    const isCut = follow.isCut;
+    example(0);
+    by("examples").value = "0";
+    if (isCut) theProgram.say("This link is cut or changed, so its texts can't be had. Here is an example.");
+    follow.isCut = false;
+  }
+  if (!program) {
+    answered([line("This browser can't run the program: it has no WebAssembly memory with 64-bit addresses. Chrome and Edge have it from version 133, Firefox from 134.", "first bad"),
+      line(`Else the program itself answers, from a shell: ./xduce check program.x${fault}`)], ["check", PROGRAM], null);
+  }
+  document.documentElement.dataset.ready = "yes";
+}
+
+begin();
