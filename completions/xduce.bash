@@ -79,4 +79,4 @@ _xduce_script() {
 }
 
 complete -F _xduce xduce ./xduce
-complete -F _xduce_script xduce-check-proof xduce-explain xduce-format xduce-lint xduce-versions xduce-where
+complete -F _xduce_script xduce-check-proof xduce-dtd xduce-explain xduce-format xduce-lint xduce-versions xduce-where
