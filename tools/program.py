@@ -20,7 +20,7 @@ import shutil
 import subprocess
 import sys
 
-ROOT = os.path.dirname(os.path.dirname(os.path.abspath(__file__)))
+ROOT = os.path.dirname(os.path.dirname(os.path.realpath(__file__)))
 CRATES, DIST = f"{ROOT}/crates", f"{ROOT}/dist"
 OUT = f"{CRATES}/xduce/out"
 LIST = f"{DIST}/programs.txt"
