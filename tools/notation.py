@@ -656,6 +656,11 @@ class Parsed:
         return self.tokens.word(index) if index is not None else None
 
 
+def class_named(names, is_except):
+    """The class of these names, or of all but these."""
+    return tuple(sorted(set(names), key=str.encode)), is_except
+
+
 def class_of(tokens, node):
     """The class of labels or texts of a node: its names in order, and whether all but these are meant."""
     kinds, last = tokens.kinds, node.last if node.kind == "texts" else node.name
@@ -666,7 +671,7 @@ def class_of(tokens, node):
         return (), True
     else:
         names = {tokens.word(it) for it in range(node.first, last + 1) if kinds[it] in WORDS or kinds[it] == "label"}
-    return tuple(sorted(names, key=str.encode)), is_except
+    return class_named(names, is_except)
 
 
 # Types in the form in which their meaning is told: ("seq", parts), ("alt", parts), ("*", T), ("+", T),
