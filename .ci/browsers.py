@@ -10,7 +10,7 @@ import subprocess
 import tempfile
 import time
 
-WAIT = 90
+WAIT = 300
 
 
 class Failed(Exception):

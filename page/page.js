@@ -18,6 +18,8 @@ function element(name, its = {}, ...inner) {
   return made;
 }
 
+const sentence = text => /[.?!]$/.test(text) ? text : `${text[0].toUpperCase()}${text.slice(1)}.`;
+const own = (table, key) => Object.hasOwn(table, key) ? table[key] : undefined;
 const counted = number => number.toLocaleString("en");
 
 // ---------------------------------------------------------------- The notation
@@ -105,9 +107,9 @@ function spread(text) {
 
 class Pane {
   constructor(id, name) {
-    Object.assign(this, {name, root: by(id), limit: LIMITS[id], marks: [], tips: new Map(), rows: [], found: [], pairs: new Map(), lit: ""});
+    Object.assign(this, {name, root: by(id), limit: LIMITS[id], marks: [], tips: new Map(), rows: [], found: [], pairs: new Map(), lit: "", kept: ""});
     for (const it of ["textarea", "pre", ".editor", ".numbers", ".state", ".note"]) this[it.replace(/^\./, "")] = this.root.querySelector(it);
-    this.textarea.addEventListener("input", () => { this.marks = []; this.tips.clear(); this.draw(); changed(); });
+    this.textarea.addEventListener("input", () => { this.kept = ""; this.marks = []; this.tips.clear(); this.draw(); changed(); });
     this.textarea.addEventListener("pointermove", event => this.point(event));
     this.textarea.addEventListener("pointerleave", () => this.caret());
     this.textarea.addEventListener("keydown", event => this.key(event));
@@ -136,6 +138,7 @@ class Pane {
 
   set(text, isQuiet = false) {
     this.textarea.value = text;
+    this.keep("");
     this.marks = [];
     this.tips.clear();
     this.draw();
@@ -146,6 +149,12 @@ class Pane {
 
   say(text) { this.note.replaceChildren(text); }
 
+  /** Says what stays until another text is there, but for what is said of a place. */
+  keep(text) {
+    this.kept = text;
+    this.say(text);
+  }
+
   tell(text, kind = "") {
     this.state.textContent = text;
     this.state.className = `state ${kind}`;
@@ -154,22 +163,21 @@ class Pane {
   async open(file) {
     if (!file) return;
     if (file.size > this.limit) {
-      this.say(`${file.name} has ${counted(file.size)} bytes; ${this.name === PROGRAM ? "a program" : "a document"} has at most ${counted(this.limit)}. It wasn't opened.`);
+      this.keep(`${file.name} has ${counted(file.size)} bytes; ${this.name === PROGRAM ? "a program" : "a document"} has at most ${counted(this.limit)}. It wasn't opened.`);
       return;
     }
     let bytes;
     try {
       bytes = new Uint8Array(await file.arrayBuffer());
     } catch {
-      this.say(`${file.name} can't be read: is it a folder?`);
+      this.keep(`${file.name} can't be read: is it a folder?`);
       return;
     }
     try {
       this.set(new TextDecoder("utf-8", {fatal: true, ignoreBOM: true}).decode(bytes));
-      this.opened = `${file.name} is opened.`;
-      this.say(this.opened);
+      this.keep(`${file.name} is opened.`);
     } catch {
-      this.say(`${file.name} isn't text in UTF-8, so it wasn't opened. Save it as UTF-8: iconv -f latin1 -t utf-8 ${file.name}`);
+      this.keep(`${file.name} isn't text in UTF-8, so it wasn't opened. Save it as UTF-8: iconv -f latin1 -t utf-8 ${file.name}`);
     }
   }
 
@@ -283,7 +291,7 @@ class Pane {
   /** What there is to say of an offset: a mark, or what a variable may be. */
   said(at) {
     const mark = this.marks.find(it => at >= it.begin && at <= it.end);
-    if (mark) return [element("strong", {}, `${this.place(mark.begin).join(":")} `), mark.text, ...mark.hints.map(it => `. ${it}`)];
+    if (mark) return [element("strong", {}, `${this.place(mark.begin).join(":")} `), mark.text, ...mark.hints.map(it => `. ${sentence(it)}`)];
     for (const [begin, {word, parts}] of this.tips) {
       if (at >= begin && at <= begin + word.length) return parts.map(it => typeof it === "string" ? it : element("code", {}, it.code));
     }
@@ -301,8 +309,8 @@ class Pane {
     }
     const said = this.said(at);
     if (said) this.note.replaceChildren(...said);
-    else if (is) this.say(`Line ${this.place(at)[0]}, column ${this.place(at)[1]}`);
-    else this.say(this.opened ?? "");
+    else if (is && !this.kept) this.say(`Line ${this.place(at)[0]}, column ${this.place(at)[1]}`);
+    else this.say(this.kept);
   }
 
   point(event) {
@@ -389,14 +397,14 @@ class Asker {
 
 // ---------------------------------------------------------------- Hints
 
-/** What a slip of syntax looks like, by what stands at the place and before it. */
-function syntaxHint(text, at) {
-  const before = text.slice(0, at).trimEnd(), here = text.slice(at);
-  for (const {here: one, before: other, hint} of DATA.slips) {
-    if ((!one || new RegExp(`^(?:${one})`).test(here)) && (!other || new RegExp(`(?:${other})$`).test(text.slice(0, at)) || new RegExp(`(?:${other})$`).test(before))) return hint;
-  }
-  return null;
+/** What a slip looks like, by what stands at the place and before it. */
+function slipOf(text, at, slips) {
+  const before = text.slice(0, at), here = text.slice(at);
+  const ends = pattern => new RegExp(`(?:${pattern})$`), begins = pattern => new RegExp(`^(?:${pattern})`);
+  return slips.find(it => (!it.here || begins(it.here).test(here)) && (!it.before || ends(it.before).test(before) || ends(it.before).test(before.trimEnd())))?.hint;
 }
+
+const syntaxHint = (text, at) => slipOf(text, at, DATA.slips) ?? own(DATA.elsewhere, /^\w*/.exec(text.slice(at))[0]) ?? own(DATA.characters, text[at]);
 
 /** How many letters have to change between two words. */
 function distance(one, other) {
@@ -423,7 +431,8 @@ function hintsOf(pane, number, isWarning, words, at) {
     const near = nearest(found[1], [...defined(pane, keyword), ...number === 5 ? ["String", "Any"] : []]);
     const more = near.length ? [`Did you mean ${joined(near)}?`] : [];
     if (number !== 5 && defined(pane, "type").includes(found[1])) more.push(`${found[1]} is a type`);
-    if (number === 5 && !near.length) more.push(`An element is written ${found[1]}[], a text "${found[1]}"`);
+    if (number === 5 && own(DATA.types, found[1])) more.push(DATA.types[found[1]]);
+    else if (number === 5 && !near.length) more.push(`An element is written ${found[1]}[], a text "${found[1]}"`);
     return more;
   }
   return DATA.hints[number] ? [DATA.hints[number]] : [];
@@ -457,14 +466,14 @@ const shownText = text => element("pre", {}, text.length > SHOWN ? `${text.slice
 
 /** A text of the answer, with a button that makes it the document. */
 function asDocument(text) {
-  return [shownText(spread(text)), element("button", {type: "button", onclick: () => { theDocument.opened = null; theDocument.set(`${spread(text)}\n`); }}, "Make this the document")];
+  return [shownText(spread(text)), element("button", {type: "button", onclick: () => { theDocument.set(`${spread(text)}\n`); }}, "Make this the document")];
 }
 
 function shownMessages(found) {
   return element("ul", {}, ...found.flatMap(it => [
     element("li", {},
       it.place ? element("button", {type: "button", className: it.kind === "warning" ? "odd" : "bad", onclick: () => theProgram.show(it.begin)}, `${it.place}: ${it.text}`) : line(it.text, "bad"),
-      ...it.hints.map(hint => element("p", {className: "hint"}, hint))),
+      ...it.hints.map(hint => element("p", {className: "hint"}, sentence(hint)))),
   ]));
 }
 
@@ -535,10 +544,9 @@ const tokenShown = at => {
 /** What a document that isn't written as one is told. */
 function malformed(text) {
   const mark = markDocument(text, at => `${tokenShown(at)} is no document's`);
-  const here = theDocument.text.slice(mark.begin);
-  const slip = DATA.documents.find(it => new RegExp(`^(?:${it.here})`).test(here));
-  if (slip) mark.hints.push(slip.hint);
-  return [element("p", {className: "first bad"}, element("button", {type: "button", onclick: () => theDocument.show(mark.begin)}, text.trim()), ` `, mark.text), slip ? line(slip.hint) : null];
+  const slip = slipOf(theDocument.text, mark.begin, DATA.documents);
+  if (slip) mark.hints.push(slip);
+  return [element("p", {className: "first bad"}, element("button", {type: "button", onclick: () => theDocument.show(mark.begin)}, text.trim()), ` `, mark.text), slip ? line(slip) : null];
 }
 
 /** What may stand at a place of the document: the program is asked for the document up to there with each thing that might. */
@@ -593,6 +601,7 @@ async function showStream({status, text}, _, {left}) {
   mayStand(left, mark.begin, place).then(may => {
     if (!may) { more.textContent = ""; return; }
     const it = tokenShown(mark.begin), near = it.endsWith("[") ? nearest(it, may.found.filter(that => that.endsWith("["))) : [];
+    if (!may.found.length && !may.isWhole) { more.textContent = ""; return; }
     const said = may.found.length ? `Here may stand ${joined(may.found)}${may.isWhole ? "" : ", and perhaps more"}.` : "Nothing may stand here.";
     more.textContent = `${said}${may.found.instead ?? ""}${near.length ? ` Did you mean ${joined(near)}?` : ""}`;
     more.className = "";
@@ -771,7 +780,6 @@ function example(number) {
   wanted = {left: it.left, right: it.right};
   choose(it.question);
   for (const [pane, text] of [[theProgram, it.program], [theDocument, it.document]]) {
-    pane.opened = null;
     pane.set(text, true);
   }
   isFresh = true;
@@ -795,7 +803,7 @@ async function link() {
   } catch {
     // (a page may lack the right to copy)
   }
-  theProgram.say(location.href.length > 8000 ? `${said}. Some programs cut an address of that length.` : `${said}.`);
+  theProgram.keep(location.href.length > 8000 ? `${said}. Some programs cut an address of that length.` : `${said}.`);
 }
 
 /** Takes the texts of the address; whether it has some. */
@@ -813,7 +821,7 @@ async function follow() {
     theProgram.set(held.program, true);
     theDocument.set(held.document, true);
     by("examples").value = "";
-    theProgram.say("The texts are those of the link.");
+    theProgram.keep("The texts are those of the link.");
     isFresh = true;
     inquire();
     return true;
@@ -861,7 +869,7 @@ function lay() {
   addEventListener("dragover", event => event.preventDefault());
   addEventListener("drop", event => event.preventDefault());
   addEventListener("hashchange", async () => {
-    if (!await follow() && follow.isCut) theProgram.say("This link is cut or changed, so its texts can't be had. What stood here stays.");
+    if (!await follow() && follow.isCut) theProgram.keep("This link is cut or changed, so its texts can't be had. What stood here stays.");
     follow.isCut = false;
   });
 }
@@ -886,7 +894,7 @@ async function begin() {
     const isCut = follow.isCut;
     example(0);
     by("examples").value = "0";
-    if (isCut) theProgram.say("This link is cut or changed, so its texts can't be had. Here is an example.");
+    if (isCut) theProgram.keep("This link is cut or changed, so its texts can't be had. Here is an example.");
     follow.isCut = false;
   }
   if (!program) {

@@ -1,66 +1,102 @@
 "use strict";
-// Asks the program. Each question has an instance of the module, and so a memory, of its own.
+// Asks the program. Each question has an instance of the module, and so a memory, of its own; the
+// tokens that may stand at one place share one.
 
-const ROOMS = [1 << 22, 1 << 26];
+const ROOMS = [1 << 20, 1 << 26];
 const coder = new TextEncoder(), decoder = new TextDecoder("utf-8", {ignoreBOM: true});
 let program = null;
 
 class NoMemory extends Error {}
 
-/** The status and the output for these words, where the texts are pairs of a name and bytes. */
-function ask(words, texts, room) {
-  const {xd_page, page_room, memory} = new WebAssembly.Instance(program, {}).exports;
-  const take = length => {
-    const at = Number(page_room(BigInt(Math.max(length, 16))));
+/** An instance of the program, with what is put into its memory. */
+class Instance {
+  constructor() {
+    Object.assign(this, new WebAssembly.Instance(program, {}).exports);
+    this.written = this.take(8);
+  }
+
+  take(length) {
+    const at = Number(this.page_room(BigInt(Math.max(length, 16))));
     if (!at) throw new NoMemory();
     return at;
-  };
-  const put = bytes => {
-    const at = take(bytes.length);
-    new Uint8Array(memory.buffer, at, bytes.length).set(bytes);
+  }
+
+  /** Where some bytes begin, with room for more behind them, and how many they are. */
+  put(bytes, more = 0) {
+    const at = this.take(bytes.length + more);
+    new Uint8Array(this.memory.buffer, at, bytes.length).set(bytes);
     return [at, bytes.length];
-  };
-  const table = parts => {
-    const at = take(8 * parts.length);
-    new BigUint64Array(memory.buffer, at, parts.length).set(parts.map(BigInt));
-    return BigInt(at);
-  };
-  const named = table(texts.flatMap(([name, bytes]) => [...put(coder.encode(name)), ...put(bytes)]));
-  const said = table(words.flatMap(word => put(coder.encode(word))));
-  const at = take(room), written = take(8);
-  const status = xd_page(said, BigInt(words.length), named, BigInt(texts.length), BigInt(at), BigInt(room), BigInt(written));
-  const length = Number(new BigUint64Array(memory.buffer, written, 1)[0]);
-  return {status, text: decoder.decode(new Uint8Array(memory.buffer, at, length)), memory: memory.buffer.byteLength};
+  }
+
+  table(numbers) {
+    const at = this.take(8 * numbers.length);
+    new BigUint64Array(this.memory.buffer, at, numbers.length).set(numbers.map(BigInt));
+    return at;
+  }
+
+  /** Takes the words, and texts as names with where their bytes are, and room for the output. */
+  prepare(words, texts, room) {
+    this.words = [this.table(words.flatMap(word => this.put(coder.encode(word)))), words.length];
+    this.texts = [this.table(texts.flatMap(([name, bytes]) => [...this.put(coder.encode(name)), ...bytes])), texts.length];
+    this.room = [this.take(room), room];
+  }
+
+  /** The status and the output for what was taken. */
+  ask() {
+    const status = this.xd_page(...[...this.words, ...this.texts, ...this.room, this.written].map(BigInt));
+    const length = Number(new BigUint64Array(this.memory.buffer, this.written, 1)[0]);
+    return {status, text: decoder.decode(new Uint8Array(this.memory.buffer, this.room[0], length))};
+  }
 }
 
-/** The same with room enough for the output, and whatever ends a call in its place. */
+/** The answer to these words, with room enough for the output, and whatever ends a call in its place. */
 function answer(words, texts) {
   const begin = performance.now();
   let found;
   try {
     for (const room of ROOMS) {
-      found = ask(words, texts, room);
+      const instance = new Instance();
+      instance.prepare(words, texts.map(([name, bytes]) => [name, instance.put(bytes)]), room);
+      found = instance.ask();
       if (found.status !== 4) break;
     }
   } catch (fault) {
-    found = fault instanceof NoMemory || fault instanceof RangeError && /memory|allocation/i.test(fault.message)
-      ? {status: 5, text: "", memory: 0} : {status: -1, text: String(fault), memory: 0};
+    const isMemory = fault instanceof NoMemory || fault instanceof RangeError && /memory|allocation/i.test(fault.message);
+    found = {status: isMemory ? 5 : -1, text: isMemory ? "" : String(fault)};
   }
   return {...found, milliseconds: performance.now() - begin};
 }
 
-/** Which of the tokens may stand at a place of a document, by asking for the document up to there with each of them. */
+/** Which tokens may stand at a place of a document, by asking for the document up to there with each of them. */
 function probe({words, texts, front, place, tokens, milliseconds}) {
-  const end = performance.now() + milliseconds, may = [];
+  const end = performance.now() + milliseconds, may = [], bytes = coder.encode(front);
+  const instance = new Instance(), longest = Math.max(...tokens.map(it => coder.encode(it).length));
+  const [at, length] = instance.put(bytes, longest);
+  instance.prepare(words, [...texts.map(([name, it]) => [name, instance.put(it)]), ["document.xd", [at, length]]], 4096);
+  // (the length of the last text)
+  const lengthAt = instance.texts[0] + 32 * instance.texts[1] - 8;
   for (const token of tokens) {
     if (performance.now() > end) return {may, isWhole: false};
-    const {status, text} = answer(words, [...texts, ["document.xd", coder.encode(front + token)]]);
+    const more = coder.encode(token);
+    new Uint8Array(instance.memory.buffer, at + length, more.length).set(more);
+    new BigUint64Array(instance.memory.buffer, lengthAt, 1)[0] = BigInt(length + more.length);
+    const {status, text} = instance.ask();
+    if (status === 5) return {may, isWhole: false};
     if (token ? status === 0 || !text.startsWith(`${place}: `) : status === 0) may.push(token);
   }
   return {may, isWhole: true};
 }
 
+/** What a probe finds; where the browser ends it, nothing. */
+function probed(given) {
+  try {
+    return probe(given);
+  } catch {
+    return {may: [], isWhole: false};
+  }
+}
+
 onmessage = ({data}) => {
   if (data.program) program = data.program;
-  else postMessage({number: data.number, found: data.probe ? probe(data.probe) : answer(data.words, data.texts)});
+  else postMessage({number: data.number, found: data.probe ? probed(data.probe) : answer(data.words, data.texts)});
 };
