@@ -23,7 +23,15 @@ class Browser:
     def __init__(self, *words, **how):
         self.profile = tempfile.mkdtemp(prefix="xduce-browser-")
         words = [word.format(profile=self.profile) for word in words]
-        self.process = subprocess.Popen(words, stdin=subprocess.DEVNULL, stdout=subprocess.DEVNULL, stderr=subprocess.DEVNULL, start_new_session=True, env={**os.environ, "HOME": self.profile}, **how)
+        self.process = subprocess.Popen(
+            words,
+            stdin=subprocess.DEVNULL,
+            stdout=subprocess.DEVNULL,
+            stderr=subprocess.DEVNULL,
+            start_new_session=True,
+            env={**os.environ, "HOME": self.profile},
+            **how,
+        )
 
     def close(self):
         try:
@@ -43,19 +51,37 @@ class Chromium(Browser):
         to_read, given = os.pipe()
         taken, to_write = os.pipe()
         # (it reads its descriptor 3 and writes its descriptor 4)
-        words = ["sh", "-c", f'exec 3<&{to_read} 4>&{to_write}; exec "$@"', "sh", path, "--headless=new", "--no-sandbox", "--disable-gpu", "--disable-dev-shm-usage",
-                 "--user-data-dir={profile}", "--remote-debugging-pipe", "--force-device-scale-factor=1", *more, "about:blank"]
+        words = [
+            "sh",
+            "-c",
+            f'exec 3<&{to_read} 4>&{to_write}; exec "$@"',
+            "sh",
+            path,
+            "--headless=new",
+            "--no-sandbox",
+            "--disable-gpu",
+            "--disable-dev-shm-usage",
+            "--user-data-dir={profile}",
+            "--remote-debugging-pipe",
+            "--force-device-scale-factor=1",
+            *more,
+            "about:blank",
+        ]
         super().__init__(*words, pass_fds=(to_read, to_write))
         os.close(to_read)
         os.close(to_write)
         self.given, self.taken, self.seen, self.number, self.session = given, taken, b"", 0, None
         until = time.time() + WAIT
         while True:
-            pages = [it for it in self.call("Target.getTargets")["targetInfos"] if it["type"] == "page"]
+            pages = [
+                it for it in self.call("Target.getTargets")["targetInfos"] if it["type"] == "page"
+            ]
             if pages or time.time() > until:
                 break
             time.sleep(0.05)
-        self.session = self.call("Target.attachToTarget", targetId=pages[0]["targetId"], flatten=True)["sessionId"]
+        self.session = self.call(
+            "Target.attachToTarget", targetId=pages[0]["targetId"], flatten=True
+        )["sessionId"]
         self.call("Page.enable")
 
     def call(self, method, **given):
@@ -85,7 +111,10 @@ class Chromium(Browser):
         until = time.time() + WAIT
         while time.time() < until:
             try:
-                if self.run("return document.readyState === 'complete' && (location.href === 'about:blank') === " + json.dumps(address == "about:blank")):
+                if self.run(
+                    "return document.readyState === 'complete' && (location.href === 'about:blank') === "
+                    + json.dumps(address == "about:blank")
+                ):
                     break
             except Failed:
                 pass  # (the page that was there goes)
@@ -93,9 +122,18 @@ class Chromium(Browser):
 
     def run(self, script):
         """What the body of an asynchronous function gives in the page, as data."""
-        found = self.call("Runtime.evaluate", expression=f"(async () => {{ {script} }})()", awaitPromise=True, returnByValue=True)
+        found = self.call(
+            "Runtime.evaluate",
+            expression=f"(async () => {{ {script} }})()",
+            awaitPromise=True,
+            returnByValue=True,
+        )
         if "exceptionDetails" in found:
-            raise Failed(found["exceptionDetails"].get("exception", {}).get("description", found["exceptionDetails"]["text"]))
+            raise Failed(
+                found["exceptionDetails"]
+                .get("exception", {})
+                .get("description", found["exceptionDetails"]["text"])
+            )
         return found["result"].get("value")
 
     def keys(self, text):
@@ -103,8 +141,17 @@ class Chromium(Browser):
         self.call("Input.insertText", text=text)
 
     def size(self, width, height, is_dark=False):
-        self.call("Emulation.setDeviceMetricsOverride", width=width, height=height, deviceScaleFactor=1, mobile=width < 600)
-        self.call("Emulation.setEmulatedMedia", features=[{"name": "prefers-color-scheme", "value": "dark" if is_dark else "light"}])
+        self.call(
+            "Emulation.setDeviceMetricsOverride",
+            width=width,
+            height=height,
+            deviceScaleFactor=1,
+            mobile=width < 600,
+        )
+        self.call(
+            "Emulation.setEmulatedMedia",
+            features=[{"name": "prefers-color-scheme", "value": "dark" if is_dark else "light"}],
+        )
 
     def picture(self, path):
         data = self.call("Page.captureScreenshot", format="png")["data"]
@@ -121,7 +168,19 @@ class Firefox(Browser):
         with socket.socket() as free:
             free.bind(("127.0.0.1", 0))
             self.port = free.getsockname()[1]
-        super().__init__("sh", "-c", f'echo \'user_pref("marionette.port", {self.port});\' >{{profile}}/user.js; exec "$@"', "sh", path, "--headless", "--no-remote", "--marionette", "--profile", "{profile}", *more)
+        super().__init__(
+            "sh",
+            "-c",
+            f'echo \'user_pref("marionette.port", {self.port});\' >{{profile}}/user.js; exec "$@"',
+            "sh",
+            path,
+            "--headless",
+            "--no-remote",
+            "--marionette",
+            "--profile",
+            "{profile}",
+            *more,
+        )
         self.number, self.seen = 0, b""
         until = time.time() + WAIT
         while True:
@@ -137,14 +196,18 @@ class Firefox(Browser):
         self.call("WebDriver:SetTimeouts", script=1000 * WAIT)
 
     def take(self):
-        while b":" not in self.seen or len(self.seen) < int(self.seen.partition(b":")[0]) + len(self.seen.partition(b":")[0]) + 1:
+        while (
+            b":" not in self.seen
+            or len(self.seen)
+            < int(self.seen.partition(b":")[0]) + len(self.seen.partition(b":")[0]) + 1
+        ):
             more = self.socket.recv(1 << 20)
             if not more:
                 raise Failed("the browser ended")
             self.seen += more
         length, _, rest = self.seen.partition(b":")
-        self.seen = rest[int(length):]
-        return json.loads(rest[:int(length)])
+        self.seen = rest[int(length) :]
+        return json.loads(rest[: int(length)])
 
     def call(self, method, **given):
         self.number += 1
@@ -161,7 +224,10 @@ class Firefox(Browser):
         self.call("WebDriver:Navigate", url=address)
 
     def run(self, script):
-        given = {"script": f"const done = arguments[0]; (async () => {{ {script} }})().then(it => done([it]), it => done([null, String(it)]))", "args": []}
+        given = {
+            "script": f"const done = arguments[0]; (async () => {{ {script} }})().then(it => done([it]), it => done([null, String(it)]))",
+            "args": [],
+        }
         found = self.call("WebDriver:ExecuteAsyncScript", **given)["value"]
         if len(found) > 1:
             raise Failed(found[1])
