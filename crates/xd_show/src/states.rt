@@ -128,7 +128,7 @@ fn like_as_one(alloc: Global, auto: &Auto, state: State) -> Result<(Auto, State)
 /// stands within itself, or where it is neither short nor stands in one place; other contents are
 /// written in place under their label. If long choices come again and again, they have names in the
 /// place of some contents. Names come in the order in which a reader meets them. Where the state
-/// accepts nothing, the one definition is `type S1 = none[S1]`, by the first name that isn't taken.
+/// accepts nothing, the one definition is `type S1 = none[S1]`.
 ///
 /// The types may be exponentially long in the states, as regular expressions for automata may be.
 /// `NoMemory` where there is no room for them.
