@@ -1,5 +1,6 @@
 "use strict";
-// The page: two texts, a question, and the answer of the program. What it writes of the texts it writes as text, never as HTML.
+// The page: two texts, a question, and the answer of the program. What it shows of these it writes
+// as text, never as HTML.
 
 const by = id => document.getElementById(id);
 const DATA = JSON.parse(by("data").textContent);
@@ -26,8 +27,10 @@ const counted = number => number.toLocaleString("en");
 
 const WORD = "[A-Za-z_][A-Za-z0-9_]*";
 const TOKEN = new RegExp([
-  /(?<comment>\(\*[^]*?(?:\*\)|$))/, /(?<string>"(?:[^"\\]|\\[^])*(?:"|$))/, /(?<list>\((?=\s*\w+(?:\s*\|\s*\w+)*\s*\)\s*\[))/,
-  new RegExp(`(?<label>${WORD}(?=\\[)|~(?=\\[))`), new RegExp(`(?<word>${WORD})`), /(?<arrow>->)/, /(?<sign>[^\s\w])/, /\s+|\w+/,
+  /(?<comment>\(\*[^]*?(?:\*\)|$))/, /(?<string>"(?:[^"\\]|\\[^])*(?:"|$))/,
+  /(?<list>\((?=\s*\w+(?:\s*\|\s*\w+)*\s*\)\s*\[))/,
+  new RegExp(`(?<label>${WORD}(?=\\[)|~(?=\\[))`), new RegExp(`(?<word>${WORD})`),
+  /(?<arrow>->)/, /(?<sign>[^\s\w])/, /\s+|\w+/,
 ].map(it => it.source).join("|"), "gy");
 const KEYWORDS = new Set(["type", "fun", "val", "as", "match", "with"]);
 const CLOSES = {"(": ")", "[": "]"};
@@ -107,9 +110,12 @@ function spread(text) {
 
 class Pane {
   constructor(id, name) {
-    Object.assign(this, {name, root: by(id), limit: LIMITS[id], marks: [], tips: new Map(), rows: [], found: [], pairs: new Map(), lit: "", kept: ""});
-    for (const it of ["textarea", "pre", ".editor", ".numbers", ".state", ".note"]) this[it.replace(/^\./, "")] = this.root.querySelector(it);
-    this.textarea.addEventListener("input", () => { this.kept = ""; this.marks = []; this.tips.clear(); this.draw(); changed(); });
+    Object.assign(this, {name, root: by(id), limit: LIMITS[id], lit: "", kept: ""});
+    Object.assign(this, {marks: [], tips: new Map(), rows: [], found: [], pairs: new Map()});
+    for (const it of ["textarea", "pre", ".editor", ".numbers", ".state", ".note"]) {
+      this[it.replace(/^\./, "")] = this.root.querySelector(it);
+    }
+    this.textarea.addEventListener("input", () => { this.forget(); this.draw(); changed(); });
     this.textarea.addEventListener("pointermove", event => this.point(event));
     this.textarea.addEventListener("pointerleave", () => this.caret());
     this.textarea.addEventListener("keydown", event => this.key(event));
@@ -136,11 +142,16 @@ class Pane {
 
   get bytes() { return coder.encode(this.text); }
 
-  set(text, isQuiet = false) {
-    this.textarea.value = text;
+  /** Lets go what was said of another text. */
+  forget() {
     this.keep("");
     this.marks = [];
     this.tips.clear();
+  }
+
+  set(text, isQuiet = false) {
+    this.textarea.value = text;
+    this.forget();
     this.draw();
     this.editor.scrollTop = this.editor.scrollLeft = 0;
     this.textarea.setSelectionRange(0, 0);
@@ -163,7 +174,9 @@ class Pane {
   async open(file) {
     if (!file) return;
     if (file.size > this.limit) {
-      this.keep(`${file.name} has ${counted(file.size)} bytes; ${this.name === PROGRAM ? "a program" : "a document"} has at most ${counted(this.limit)}. It wasn't opened.`);
+      const what = this.name === PROGRAM ? "a program" : "a document";
+      this.keep(`${file.name} has ${counted(file.size)} bytes, and wasn't opened: ${what} has `
+        + `at most ${counted(this.limit)}.`);
       return;
     }
     let bytes;
@@ -177,11 +190,12 @@ class Pane {
       this.set(new TextDecoder("utf-8", {fatal: true, ignoreBOM: true}).decode(bytes));
       this.keep(`${file.name} is opened.`);
     } catch {
-      this.keep(`${file.name} isn't text in UTF-8, so it wasn't opened. Save it as UTF-8: iconv -f latin1 -t utf-8 ${file.name}`);
+      this.keep(`${file.name} isn't text in UTF-8, so it wasn't opened. Save it as UTF-8: `
+        + `iconv -f latin1 -t utf-8 ${file.name}`);
     }
   }
 
-  /** The offset of a place, and the place of an offset. (Columns count characters, as the program does, and not halves of pairs.) */
+  /** The offset of a place. Columns count characters, as the program does, not halves of pairs. */
   offset(line, column) {
     let at = 0;
     for (; line > 1; line--) at = this.text.indexOf("\n", at) + 1;
@@ -189,15 +203,18 @@ class Pane {
     return at;
   }
 
+  /** The line and the column of an offset. */
   place(at) {
-    const begin = this.text.lastIndexOf("\n", at - 1) + 1;
-    return [this.text.slice(0, begin).split("\n").length, [...this.text.slice(begin, at)].length + 1];
+    const begin = at ? this.text.lastIndexOf("\n", at - 1) + 1 : 0;
+    const line = this.text.slice(0, begin).split("\n").length;
+    return [line, [...this.text.slice(begin, at)].length + 1];
   }
 
   /** The token that begins at an offset, or one character. */
   at(begin) {
     const token = this.found.find(it => it.begin === begin);
-    return token ?? {begin, end: Math.min(begin + 1, this.text.length), text: this.text.slice(begin, begin + 1)};
+    const text = this.text.slice(begin, begin + 1);
+    return token ?? {begin, end: begin + text.length, text};
   }
 
   mark(marks) {
@@ -207,9 +224,11 @@ class Pane {
 
   /** Puts a place into sight. */
   reveal(begin) {
-    const [line, column] = this.place(begin), height = this.pre.scrollHeight / Math.max(1, this.text.split("\n").length);
+    const [line, column] = this.place(begin), lines = this.text.split("\n");
+    const height = this.pre.scrollHeight / lines.length;
+    const width = this.pre.scrollWidth / lines.reduce((most, it) => Math.max(most, it.length), 1);
     this.editor.scrollTop = Math.max(0, line * height - this.editor.clientHeight / 2);
-    this.editor.scrollLeft = column > 60 ? this.editor.scrollWidth * (column - 30) / Math.max(...this.text.split("\n").map(it => it.length)) : 0;
+    this.editor.scrollLeft = Math.max(0, (column + 20) * width - this.editor.clientWidth);
   }
 
   /** The same, with the caret there. */
@@ -237,12 +256,15 @@ class Pane {
   paint() {
     const text = this.text, spans = [];
     for (const {begin, end, kind} of this.found) if (kind) spans.push([begin, end, kind]);
-    for (const {begin, end, kind} of this.marks) spans.push([begin, Math.max(end, begin + 1), `${kind}-mark`]);
+    for (const {begin, end, kind} of this.marks) spans.push([begin, end, `${kind}-mark`]);
     for (const at of this.lit ? this.lit.split(" ").map(Number) : []) {
       spans.push([at, at + 1, this.pairs.get(at) < 0 ? "unmatched" : "bracket"]);
     }
     const edges = new Map();
-    const edge = (at, it, by) => { if (!edges.has(at)) edges.set(at, []); edges.get(at).push([it, by]); };
+    const edge = (at, it, by) => {
+      if (!edges.has(at)) edges.set(at, []);
+      edges.get(at).push([it, by]);
+    };
     for (const [begin, end, kind] of spans) { edge(begin, kind, 1); edge(end, kind, -1); }
     const cuts = [...edges.keys()].sort((a, b) => a - b), now = new Map();
     let next = 0, begin = 0;
@@ -265,7 +287,8 @@ class Pane {
     while (this.pre.childElementCount > rows.length) this.pre.lastElementChild.remove();
     rows.forEach((row, number) => {
       if (this.rows[number] === keys[number] && this.pre.children[number]) return;
-      const made = element("div", {className: "row"}, ...row.map(([part, kind]) => kind ? element("span", {className: kind}, part) : part));
+      const span = ([part, className]) => className ? element("span", {className}, part) : part;
+      const made = element("div", {className: "row"}, ...row.map(span));
       if (this.pre.children[number]) this.pre.children[number].replaceWith(made);
       else this.pre.append(made);
     });
@@ -279,21 +302,27 @@ class Pane {
       lines.forEach((_, it) => {
         const kind = marked.get(it + 1);
         if (!kind) { plain += `${it + 1}\n`; return; }
-        parts.push(plain, element(kind === "warning" ? "i" : "b", {}, `${kind === "warning" ? "!" : "●"}${it + 1}`), "\n");
+        const [name, sign] = kind === "warning" ? ["i", "!"] : ["b", "●"];
+        parts.push(plain, element(name, {}, `${sign}${it + 1}`), "\n");
         plain = "";
       });
       this.numbers.replaceChildren(...parts, plain);
     }
   }
 
-  // ------------------------------------------------ What is said of the place at the caret or the pointer
+  // ------------------------------------------------ What is said of a place
 
   /** What there is to say of an offset: a mark, or what a variable may be. */
   said(at) {
     const mark = this.marks.find(it => at >= it.begin && at <= it.end);
-    if (mark) return [element("strong", {}, `${this.place(mark.begin).join(":")} `), mark.text, ...mark.hints.map(it => `. ${sentence(it)}`)];
+    if (mark) {
+      const place = element("strong", {}, `${this.place(mark.begin).join(":")} `);
+      return [place, mark.text, ...mark.hints.map(it => `. ${sentence(it)}`)];
+    }
     for (const [begin, {word, parts}] of this.tips) {
-      if (at >= begin && at <= begin + word.length) return parts.map(it => typeof it === "string" ? it : element("code", {}, it.code));
+      if (at >= begin && at <= begin + word.length) {
+        return parts.map(it => typeof it === "string" ? it : element("code", {}, it.code));
+      }
     }
     return null;
   }
@@ -329,7 +358,8 @@ class Pane {
       ruler.remove();
       return width;
     })();
-    const column = Math.floor((event.clientX - box.left - parseFloat(style.paddingLeft)) / this.width);
+    const left = box.left + parseFloat(style.paddingLeft);
+    const column = Math.floor((event.clientX - left) / this.width);
     const begin = lines.slice(0, row).join("\n").length + (row ? 1 : 0);
     const said = column >= 0 && column <= lines[row].length ? this.said(begin + column) : null;
     if (said) this.note.replaceChildren(...said);
@@ -339,20 +369,22 @@ class Pane {
   key(event) {
     if (event.key === "F8") {
       event.preventDefault();
-      const at = this.textarea.selectionStart, marks = [...this.marks].sort((a, b) => a.begin - b.begin);
-      const next = event.shiftKey ? marks.reverse().find(it => it.begin < at) : marks.find(it => it.begin > at);
-      if (next ?? marks[0]) this.show((next ?? marks[0]).begin);
+      const at = this.textarea.selectionStart, isBack = event.shiftKey;
+      const marks = [...this.marks].sort((a, b) => (a.begin - b.begin) * (isBack ? -1 : 1));
+      const next = marks.find(it => isBack ? it.begin < at : it.begin > at) ?? marks[0];
+      if (next) this.show(next.begin);
     }
   }
 }
 
 // ---------------------------------------------------------------- The program, in a worker
 
-/** What asks the program. One question is asked at a time; what is no longer wanted is ended with its worker. */
+/** What asks the program, in a worker. What is no longer wanted is ended with its worker. */
 class Asker {
   constructor(program) {
     this.program = program;
-    this.code = URL.createObjectURL(new Blob([by("worker").textContent], {type: "text/javascript"}));
+    const code = new Blob([by("worker").textContent], {type: "text/javascript"});
+    this.code = URL.createObjectURL(code);
     this.waiting = new Map();
     this.number = 0;
     this.start();
@@ -400,48 +432,72 @@ class Asker {
 /** What a slip looks like, by what stands at the place and before it. */
 function slipOf(text, at, slips) {
   const before = text.slice(0, at), here = text.slice(at);
-  const ends = pattern => new RegExp(`(?:${pattern})$`), begins = pattern => new RegExp(`^(?:${pattern})`);
-  return slips.find(it => (!it.here || begins(it.here).test(here)) && (!it.before || ends(it.before).test(before) || ends(it.before).test(before.trimEnd())))?.hint;
+  const begins = pattern => new RegExp(`^(?:${pattern})`).test(here);
+  const endsIn = (it, pattern) => new RegExp(`(?:${pattern})$`).test(it);
+  const ends = pattern => endsIn(before, pattern) || endsIn(before.trimEnd(), pattern);
+  const isLike = it => (!it.here || begins(it.here)) && (!it.before || ends(it.before));
+  return slips.find(isLike)?.hint;
 }
 
-const syntaxHint = (text, at) => slipOf(text, at, DATA.slips) ?? own(DATA.elsewhere, /^\w*/.exec(text.slice(at))[0]) ?? own(DATA.characters, text[at]);
+function syntaxHint(text, at) {
+  const word = /^\w+(?![\w[(])/.exec(text.slice(at))?.[0] ?? "";
+  return slipOf(text, at, DATA.slips) ?? own(DATA.elsewhere, word) ?? own(DATA.characters, text[at])
+    ?? slipOf(text, at, DATA.others);
+}
 
 /** How many letters have to change between two words. */
 function distance(one, other) {
   let row = [...other, ""].map((_, it) => it);
   for (let i = 1; i <= one.length; i++) {
     const next = [i];
-    for (let j = 1; j <= other.length; j++) next[j] = Math.min(row[j] + 1, next[j - 1] + 1, row[j - 1] + (one[i - 1] !== other[j - 1]));
+    for (let j = 1; j <= other.length; j++) {
+      next[j] = Math.min(row[j] + 1, next[j - 1] + 1, row[j - 1] + (one[i - 1] !== other[j - 1]));
+    }
     row = next;
   }
   return row[other.length];
 }
 
-const nearest = (word, words) => [...new Set(words)].filter(it => it !== word && distance(word, it) <= (word.length < 4 ? 1 : Math.max(2, word.length / 3)))
-  .sort((a, b) => distance(word, a) - distance(word, b) || (a < b ? -1 : 1)).slice(0, 3);
+/** The words that are near to one, the nearest first. */
+function nearest(word, words) {
+  const most = word.length < 4 ? 1 : Math.max(2, word.length / 3);
+  const near = [...new Set(words)].filter(it => it !== word).map(it => [distance(word, it), it]);
+  const kept = near.filter(([far]) => far <= most).sort(([a], [b]) => a - b);
+  return kept.slice(0, 3).map(([, it]) => it);
+}
 
-const defined = (pane, keyword) => pane.found.filter(it => it.before === keyword && !KEYWORDS.has(it.text)).map(it => it.text);
+/** The words that stand after a keyword. */
+const defined = (pane, keyword) => pane.found
+  .filter(it => it.before === keyword && !KEYWORDS.has(it.text)).map(it => it.text);
+
+const UNREACHED = "The clauses before take all that may come here, or none that it takes comes";
 
 function hintsOf(pane, number, isWarning, words, at) {
-  if (isWarning) return ["The clauses before take all that may come here, or nothing that it takes may come"];
+  if (isWarning) return [UNREACHED];
   if (number === 2) return [syntaxHint(pane.text, at)].filter(Boolean);
-  const found = /(?:type|function|variable) (\w+) is not defined/.exec(words);
-  if (found) {
-    const keyword = {5: "type", 6: "fun", 7: "val"}[number];
-    const near = nearest(found[1], [...defined(pane, keyword), ...number === 5 ? ["String", "Any"] : []]);
-    const more = near.length ? [`Did you mean ${joined(near)}?`] : [];
-    if (number !== 5 && defined(pane, "type").includes(found[1])) more.push(`${found[1]} is a type`);
-    if (number === 5 && own(DATA.types, found[1])) more.push(DATA.types[found[1]]);
-    else if (number === 5 && !near.length) more.push(`An element is written ${found[1]}[], a text "${found[1]}"`);
-    return more;
+  const name = /(?:type|function|variable) (\w+) is not defined/.exec(words)?.[1];
+  if (!name) return DATA.hints[number] ? [DATA.hints[number]] : [];
+  const keyword = {5: "type", 6: "fun", 7: "val"}[number], more = [];
+  const near = nearest(name, [...defined(pane, keyword), ...number === 5 ? ["String", "Any"] : []]);
+  if (near.length) more.push(`Did you mean ${joined(near)}?`);
+  if (number !== 5 && defined(pane, "type").includes(name)) more.push(`${name} is a type`);
+  if (number === 5 && own(DATA.types, name)) more.push(DATA.types[name]);
+  else if (number === 5 && !near.length) {
+    more.push(`An element is written ${name}[], a text "${name}"`);
   }
-  return DATA.hints[number] ? [DATA.hints[number]] : [];
+  return more;
 }
 
 const joined = (words, most = 12) => {
-  const shown = words.length > most ? [...words.slice(0, most), `${words.length - most} more`] : words;
+  const left = words.length - most;
+  const shown = left > 0 ? [...words.slice(0, most), `${left} more`] : words;
   return shown.length > 1 ? `${shown.slice(0, -1).join(", ")} or ${shown.at(-1)}` : shown.join("");
 };
+
+/** A mark on the token at an offset; at the end it is on the place behind the text. */
+const markAt = (pane, begin, kind, text) => (
+  {begin, end: Math.max(begin + 1, pane.at(begin).end), kind, text, hints: []}
+);
 
 /** The faults and warnings of an answer, with their places as offsets. */
 function messages(pane, output) {
@@ -449,12 +505,13 @@ function messages(pane, output) {
   for (const line of output.split("\n")) {
     const match = /^(\d+):(\d+): ((fault|warning) (\d+): .*)$/.exec(line);
     if (match) {
-      const begin = pane.offset(Number(match[1]), Number(match[2])), isWarning = match[4] === "warning";
-      found.push({
-        place: `${match[1]}:${match[2]}`, text: match[3], kind: match[4], begin, end: Math.max(begin + 1, pane.at(begin).end),
-        hints: hintsOf(pane, Number(match[5]), isWarning, match[3], begin),
-      });
-    } else if (/^fault /.test(line)) found.push({place: null, text: line, kind: "fault", hints: []});
+      const [, row, column, text, kind, number] = match;
+      const begin = pane.offset(Number(row), Number(column));
+      const hints = hintsOf(pane, Number(number), kind === "warning", text, begin);
+      found.push({place: `${row}:${column}`, ...markAt(pane, begin, kind, text), hints});
+    } else if (line.startsWith("fault ")) {
+      found.push({place: null, text: line, kind: "fault", hints: []});
+    }
   }
   return found;
 }
@@ -462,72 +519,108 @@ function messages(pane, output) {
 // ---------------------------------------------------------------- Questions and answers
 
 const line = (text, kind = "") => element("p", {className: kind}, text);
-const shownText = text => element("pre", {}, text.length > SHOWN ? `${text.slice(0, SHOWN)}\n.. ${counted(text.length - SHOWN)} characters more` : text);
+const button = (text, onclick, className = "") => (
+  element("button", {type: "button", onclick, className}, text)
+);
 
-/** A text of the answer, with a button that makes it the document. */
-function asDocument(text) {
-  return [shownText(spread(text)), element("button", {type: "button", onclick: () => { theDocument.set(`${spread(text)}\n`); }}, "Make this the document")];
+function shownText(text) {
+  const left = text.length - SHOWN;
+  const shown = left > 0 ? `${text.slice(0, SHOWN)}\n.. ${counted(left)} characters more` : text;
+  return element("pre", {}, shown);
 }
 
+/** A document of the answer, with a button that makes it the document. */
+function asDocument(text) {
+  const shown = spread(text);
+  return [shownText(shown), button("Make this the document", () => theDocument.set(`${shown}\n`))];
+}
+
+const COLOURS = {fault: "bad", warning: "odd"};
+
 function shownMessages(found) {
-  return element("ul", {}, ...found.flatMap(it => [
-    element("li", {},
-      it.place ? element("button", {type: "button", className: it.kind === "warning" ? "odd" : "bad", onclick: () => theProgram.show(it.begin)}, `${it.place}: ${it.text}`) : line(it.text, "bad"),
-      ...it.hints.map(hint => element("p", {className: "hint"}, sentence(hint)))),
-  ]));
+  return element("ul", {}, ...found.map(({place, text, kind, begin, hints}) => element("li", {},
+    place
+      ? button(`${place}: ${text}`, () => theProgram.show(begin), COLOURS[kind])
+      : line(text, "bad"),
+    ...hints.map(hint => element("p", {className: "hint"}, sentence(hint))))));
 }
 
 /** What a status says that isn't an answer to the question; null for the others. */
 function refusal({status, text}) {
+  const bad = text => line(text, "first bad");
+  const [most, mostOfDocument] = [LIMITS.program, LIMITS.document].map(counted);
   switch (status) {
-    case -1: return [line("The browser ended the run.", "first bad"), line(text)];
-    case 2: return [line("The words have no form of a command. (A run makes 1 to 10,000,000 calls.)", "first bad")];
-    case 3: return [line(text, "first bad")];
-    case 4: return [line("The output is longer than 64 MB, and isn't shown.", "first bad")];
-    case 5: return [line(`There isn't memory enough: the program has at most ${MEGABYTES} here. Nothing is written.`, "first bad")];
-    case 10: return [line(`${text.trim()}. A program has at most ${counted(LIMITS.program)} bytes, a document ${counted(LIMITS.document)}.`, "first bad")];
+    case -1: return [bad("The browser ended the run."), line(text)];
+    case 2: return [bad("The words have no form of a command: a run makes 1 to 10,000,000 calls.")];
+    case 3: return [bad(text)];
+    case 4: return [bad("The output is longer than 64 MB, and isn't shown.")];
+    case 5: return [bad(`There isn't memory enough: the program has at most ${MEGABYTES} here. `
+      + "Nothing is written.")];
+    case 10: return [bad(`${text.trim()}. A program has at most ${most} bytes, a document `
+      + `${mostOfDocument}.`)];
     default: return null;
   }
 }
 
+const ACCEPTED = "Accepted: no match of it fails, and what it writes is of the declared types.";
+
+function showCheck(_, found) {
+  const isWrong = found.some(it => it.kind === "fault");
+  const wrong = found.length === 1 ? "a fault" : `${found.length} faults or warnings`;
+  return [
+    line(isWrong ? `The program has ${wrong}.` : ACCEPTED, `first ${isWrong ? "bad" : "good"}`),
+    found.length ? shownMessages(found) : null,
+  ];
+}
+
+function showRun({status, text}) {
+  switch (status) {
+    case 7: return malformed(text);
+    case 8: return [
+      line("The document isn't one that main takes.", "first bad"),
+      line("Ask whether it fits main's type: that tells the place."),
+    ];
+    case 9: return [line("The program needs more calls than it was allowed.", "first bad")];
+    default: return [line("The program writes:", "first good"), ...asDocument(text.trimEnd())];
+  }
+}
+
+function showLeast({status, text}) {
+  if (status === 6) return [line("No document fits this type.", "first bad")];
+  return [line("A least document of it:", "first good"), ...asDocument(text.trimEnd())];
+}
+
+// Of each question: its words for a person and for the program, the texts beside the program, which
+// choices belong to it, and what shows its answer.
 const QUESTIONS = {
   check: {
-    title: "Is the program right?", words: () => ["check", PROGRAM], texts: [],
-    show: ({text}, found) => [
-      line(found.some(it => it.kind === "fault") ? `The program has ${found.length === 1 ? "a fault" : `${found.length} faults or warnings`}.`
-        : `Accepted: no match of it fails, and what it writes is of the declared types.${found.length ? " There is a warning." : ""}`,
-      `first ${found.some(it => it.kind === "fault") ? "bad" : "good"}`),
-      found.length ? shownMessages(found) : null,
-    ],
+    title: "Is the program right?", words: () => ["check", PROGRAM], texts: [], show: showCheck,
   },
   stream: {
-    title: "Does the document fit?", left: "The document is one of", words: ({left}) => ["stream", PROGRAM, left, DOCUMENT, "65536"], texts: [DOCUMENT],
-    show: showStream,
+    title: "Does the document fit?", left: "The document is one of", texts: [DOCUMENT],
+    words: ({left}) => ["stream", PROGRAM, left, DOCUMENT, "65536"], show: showStream,
   },
   subtype: {
-    title: "Is each A a B?", left: "Each", right: "is one of", words: ({left, right}) => ["subtype", PROGRAM, left, right], texts: [],
-    show: showSubtype,
+    title: "Is each A a B?", left: "Each", right: "is one of", texts: [],
+    words: ({left, right}) => ["subtype", PROGRAM, left, right], show: showSubtype,
   },
   types: {
     title: "What are variables?", words: () => ["types", PROGRAM], texts: [], show: showTypes,
   },
   run: {
-    title: "Run the program", fuel: true, words: ({fuel}) => ["run", PROGRAM, DOCUMENT, fuel], texts: [DOCUMENT],
-    show: ({status, text}) => status === 8 ? [line("The document isn't one that main takes.", "first bad"), line("Ask whether it fits main's type: that tells the place.")]
-      : status === 9 ? [line("The program needs more calls than it was allowed.", "first bad")]
-      : status === 7 ? malformed(text)
-      : [line("The program writes:", "first good"), ...asDocument(text.trimEnd())],
+    title: "Run the program", fuel: true, texts: [DOCUMENT],
+    words: ({fuel}) => ["run", PROGRAM, DOCUMENT, fuel], show: showRun,
   },
   least: {
-    title: "A least document", left: "A least document of", words: ({left}) => ["least", PROGRAM, left], texts: [],
-    show: ({status, text}) => status === 6 ? [line("No document fits this type.", "first bad")] : [line("A least document of it:", "first good"), ...asDocument(text.trimEnd())],
+    title: "A least document", left: "A least document of", texts: [],
+    words: ({left}) => ["least", PROGRAM, left], show: showLeast,
   },
 };
 
 function markDocument(text, message) {
   const [, row, column] = /^(\d+):(\d+): /.exec(text);
   const begin = theDocument.offset(Number(row), Number(column));
-  const mark = {begin, end: Math.max(begin + 1, theDocument.at(begin).end), kind: "fault", text: message(begin), hints: []};
+  const mark = markAt(theDocument, begin, "fault", message(begin));
   theDocument.mark([mark]);
   if (isFresh) theDocument.reveal(begin);
   theDocument.tell(`stops at ${row}:${column}`, "fault");
@@ -541,28 +634,38 @@ const tokenShown = at => {
   return whole.length > 40 ? `${whole.slice(0, 40)}..` : whole;
 };
 
+/** A line with a button that leads to a mark of the document. */
+const toMark = (mark, place, more) => (
+  element("p", {className: "first bad"}, button(place, () => theDocument.show(mark.begin)), more)
+);
+
 /** What a document that isn't written as one is told. */
 function malformed(text) {
   const mark = markDocument(text, at => `${tokenShown(at)} is no document's`);
   const slip = slipOf(theDocument.text, mark.begin, DATA.documents);
   if (slip) mark.hints.push(slip);
-  return [element("p", {className: "first bad"}, element("button", {type: "button", onclick: () => theDocument.show(mark.begin)}, text.trim()), ` `, mark.text), slip ? line(slip) : null];
+  return [toMark(mark, text.trim(), ` ${mark.text}`), slip ? line(slip) : null];
 }
 
-/** What may stand at a place of the document: the program is asked for the document up to there with each thing that might. */
+/** What may stand at a place of the document: the program is asked for the document up to there
+    with each thing that might. */
 async function mayStand(type, begin, place) {
   const front = theDocument.text.slice(0, begin);
-  const classes = new Set(theProgram.found.filter(it => /\blabel\b/.test(it.kind ?? "") && it.text !== "~").map(it => `${it.text}[`));
+  const labels = theProgram.found.filter(it => it.kind === "label" && it.text !== "~");
+  const classes = new Set(labels.map(it => `${it.text}[`));
   const strings = new Set(theProgram.found.filter(it => it.kind === "string").map(it => it.text));
   const words = ["stream", PROGRAM, type, DOCUMENT, "65536"], texts = [[PROGRAM, theProgram.bytes]];
   const other = `other${classes.size}_[`, otherText = `"other ${strings.size}"`;
   const items = [other, ...classes, otherText, ...strings];
-  const ask = (front, place, tokens) => asker.probe({words, texts, front, place, tokens, milliseconds: PROBE});
+  const ask = (front, place, tokens) => (
+    asker.probe({words, texts, front, place, tokens, milliseconds: PROBE})
+  );
   const first = await ask(front, place, [...items, ",", "]", "", "()"]);
   if (!first) return null;
   const named = may => {
     const labels = may.filter(it => it.endsWith("[")), some = may.filter(it => it.startsWith('"'));
-    return [...labels.includes(other) ? ["any element"] : labels, ...some.includes(otherText) ? ["a text"] : some];
+    const items = labels.includes(other) ? ["any element"] : labels;
+    return [...items, ...some.includes(otherText) ? ["a text"] : some];
   };
   const found = named(first.may);
   if (first.may.includes("()") && !first.may.includes("")) found.push("()");
@@ -576,9 +679,11 @@ async function mayStand(type, begin, place) {
   }
   const comma = /,\s*$/.exec(front);
   if (comma) {
-    const instead = await ask(front.slice(0, comma.index), theDocument.place(comma.index).join(":"), ["]", ""]);
+    const where = theDocument.place(comma.index).join(":");
+    const instead = await ask(front.slice(0, comma.index), where, ["]", ""]);
     if (!instead) return null;
-    found.instead = instead.may.length ? ` In place of the comma may stand ${instead.may.includes("]") ? "]" : "the end"}.` : "";
+    const end = instead.may.includes("]") ? "]" : "the end";
+    found.instead = instead.may.length ? ` In place of the comma may stand ${end}.` : "";
   }
   return {found, isWhole: first.isWhole};
 }
@@ -595,15 +700,18 @@ async function showStream({status, text}, _, {left}) {
     mark = theDocument.marks[0];
   } else {
     mark = markDocument(text, at => `${tokenShown(at)} can't stand here`);
-    shown = [element("p", {className: "first bad"}, element("button", {type: "button", onclick: () => theDocument.show(mark.begin)}, place), ` ${mark.text}: no document of ${left} goes on like this.`)];
+    shown = [toMark(mark, place, ` ${mark.text}: no document of ${left} goes on like this.`)];
   }
   const more = line("..", "hint");
   mayStand(left, mark.begin, place).then(may => {
     if (!may) { more.textContent = ""; return; }
-    const it = tokenShown(mark.begin), near = it.endsWith("[") ? nearest(it, may.found.filter(that => that.endsWith("["))) : [];
+    const it = tokenShown(mark.begin), labels = may.found.filter(that => that.endsWith("["));
+    const near = it.endsWith("[") ? nearest(it, labels) : [];
     if (!may.found.length && !may.isWhole) { more.textContent = ""; return; }
-    const said = may.found.length ? `Here may stand ${joined(may.found)}${may.isWhole ? "" : ", and perhaps more"}.` : "Nothing may stand here.";
-    more.textContent = `${said}${may.found.instead ?? ""}${near.length ? ` Did you mean ${joined(near)}?` : ""}`;
+    const all = `${joined(may.found)}${may.isWhole ? "" : ", and perhaps more"}`;
+    const said = may.found.length ? `Here may stand ${all}.` : "Nothing may stand here.";
+    const meant = near.length ? ` Did you mean ${joined(near)}?` : "";
+    more.textContent = `${said}${may.found.instead ?? ""}${meant}`;
     more.className = "";
     mark.hints.push(more.textContent);
     theDocument.caret();
@@ -612,22 +720,27 @@ async function showStream({status, text}, _, {left}) {
 }
 
 async function showSubtype({status, text}, _, {left, right}) {
+  const types = [PROGRAM, theProgram.bytes];
   if (status === 0) {
-    const verified = await asker.answer(["verify", PROGRAM, PROOF], [[PROGRAM, theProgram.bytes], [PROOF, coder.encode(text)]]);
+    const proof = [PROOF, coder.encode(text)];
+    const verified = await asker.answer(["verify", PROGRAM, PROOF], [types, proof]);
     if (!verified) return null;
+    const count = counted(text.split("\n").length - 1);
     return [
       line(`Yes: each ${left} is one of ${right}.`, "first good"),
-      line(verified.status === 0 ? `The proof below has ${counted(text.split("\n").length - 1)} lines. verify has looked at each: ${verified.text.trim()}` : verified.text),
+      line(`The proof has ${count} lines. verify has looked at each: ${verified.text.trim()}`),
       element("details", {}, element("summary", {}, "The proof"), shownText(text)),
     ];
   }
-  const minus = await asker.answer(["minus", PROGRAM, left, right], [[PROGRAM, theProgram.bytes]]);
+  const minus = await asker.answer(["minus", PROGRAM, left, right], [types]);
   if (!minus) return null;
   return [
     line(`No. This is a document of ${left} and none of ${right}; no smaller one is:`, "first bad"),
     ...asDocument(text.replace(/^no: /, "").trimEnd()),
-    minus.status === 0 ? line(`All documents of ${left} alone are those of the first type here:`) : null,
-    minus.status === 0 ? shownText(minus.text.trimEnd()) : null,
+    ...minus.status ? [] : [
+      line(`All documents of ${left} alone are those of the first type here:`),
+      shownText(minus.text.trimEnd()),
+    ],
   ];
 }
 
@@ -637,12 +750,16 @@ function blocks(output) {
   let last = null;
   for (const it of output.split("\n")) {
     const match = /^(\d+):(\d+): variable (\w+) as (\w+)$/.exec(it);
-    if (match) found.set(`${match[1]}:${match[2]}`, last = {word: match[3], name: match[4], lines: []});
-    else if (last && it.startsWith("type ")) last.lines.push(it);
+    if (match) {
+      last = {word: match[3], name: match[4], lines: []};
+      found.set(`${match[1]}:${match[2]}`, last);
+    } else if (last && it.startsWith("type ")) last.lines.push(it);
   }
   for (const block of found.values()) {
     const only = block.lines.length === 1 && block.lines[0].replace(`type ${block.name} = `, "");
-    block.shown = only === `none[${block.name}]` ? "nothing: no document comes here" : only && !new RegExp(`\\b${block.name}\\b`).test(only) ? only : block.lines.join("\n");
+    const isAlone = only && !new RegExp(`\\b${block.name}\\b`).test(only);
+    block.shown = only === `none[${block.name}]` ? "nothing: no document comes here"
+      : isAlone ? only : block.lines.join("\n");
   }
   return found;
 }
@@ -658,38 +775,49 @@ async function lookAtVariables() {
   theProgram.tips.clear();
   for (const [place, {word, shown}] of all) {
     const [row, column] = place.split(":").map(Number), other = precise.get(place)?.shown ?? "";
+    const first = other === shown ? [] : ["; by first matches ", {code: other}];
     theProgram.tips.set(theProgram.offset(row, column), {
-      word, parts: [`${word} may be `, {code: shown}, ...other !== shown ? ["; by first matches ", {code: other}] : []],
+      word, parts: [`${word} may be `, {code: shown}, ...first],
     });
   }
   return {all, precise};
 }
 
-async function showTypes({text}, found) {
+async function showTypes(_, found) {
   const looked = await lookAtVariables();
   if (!looked) return null;
   if (!looked.all.size) return [line("No pattern of the program has a variable.", "first")];
+  const code = text => element("code", {}, text);
+  const row = (name, cells) => element("tr", {}, ...cells.map(it => element(name, {}, it)));
   const rows = [...looked.all].map(([place, {word, shown}]) => {
-    const [row, column] = place.split(":").map(Number), other = looked.precise.get(place)?.shown ?? "";
-    const go = element("button", {type: "button", onclick: () => theProgram.show(theProgram.offset(row, column))}, place);
-    return element("tr", {}, element("td", {}, go), element("td", {}, element("code", {}, word)), element("td", {}, element("code", {}, shown)),
-      element("td", {}, other === shown ? "the same" : element("code", {}, other)));
+    const at = place.split(":").map(Number), other = looked.precise.get(place)?.shown ?? "";
+    const go = button(place, () => theProgram.show(theProgram.offset(...at)));
+    return row("td", [go, code(word), code(shown), other === shown ? "the same" : code(other)]);
   });
-  const head = element("tr", {}, ...["Place", "Variable", "By any way of its pattern", "By the first match"].map(it => element("th", {}, it)));
-  return [line("Point at a variable in the program, or put the caret there, to see the same below it.", "first"), found.length ? shownMessages(found) : null, element("table", {}, head, ...rows)];
+  const head = ["Place", "Variable", "By any way of its pattern", "By the first match"];
+  return [
+    line("The pointer or the caret, at a variable of the program, shows the same there.", "first"),
+    found.length ? shownMessages(found) : null,
+    element("table", {}, row("th", head), ...rows),
+  ];
 }
 
 // (fresh texts, of an example or a link, are shown where their first mark is)
-let theProgram, theDocument, asker, question = "check", timer = 0, asked = 0, isFresh = false, wanted = {};
+let theProgram, theDocument, asker, question = "check", timer = 0, asked = 0;
+let isFresh = false, wanted = {};
 
-const chosen = () => ({left: by("left").value, right: by("right").value, fuel: by("fuel").value.replace(/[,\s]/g, "")});
+const chosen = () => (
+  {left: by("left").value, right: by("right").value, fuel: by("fuel").value.replace(/[,\s]/g, "")}
+);
 
 /** The names of types in the lists. What was chosen stays, as long as it is there. */
 function offerTypes() {
   const names = [...new Set(defined(theProgram, "type")), "Any", "String"];
   ["left", "right"].forEach((id, number) => {
     const list = by(id);
-    if ([...list.options].map(it => it.value).join() !== names.join()) list.replaceChildren(...names.map(it => element("option", {value: it}, it)));
+    if ([...list.options].map(it => it.value).join() !== names.join()) {
+      list.replaceChildren(...names.map(it => element("option", {value: it}, it)));
+    }
     list.value = names.includes(wanted[id]) ? wanted[id] : names[number];
   });
 }
@@ -709,8 +837,19 @@ function running(text) {
 function answered(parts, words, found) {
   by("answer").replaceChildren(...parts.filter(Boolean));
   by("answer").scrollTop = 0;
-  const time = found ? ` · status ${found.status} · ${found.milliseconds < 10 ? found.milliseconds.toFixed(1) : Math.round(found.milliseconds)} ms` : "";
-  by("command").replaceChildren("The same in a shell: ", element("code", {}, `xduce ${words.join(" ")}`), time);
+  const time = found?.milliseconds.toFixed(found.milliseconds < 10 ? 1 : 0);
+  const told = found ? ` · status ${found.status} · ${time} ms` : "";
+  const shell = element("code", {}, `xduce ${words.join(" ")}`);
+  by("command").replaceChildren("The same in a shell: ", shell, told);
+}
+
+/** What stands above the program: how many faults and warnings it has. */
+function tellChecked(checked, faults, warnings) {
+  const some = (count, what) => `${count} ${what}${count > 1 ? "s" : ""}`;
+  if (refusal(checked)) theProgram.tell("no answer", "fault");
+  else if (faults) theProgram.tell(some(faults, "fault"), "fault");
+  else if (warnings) theProgram.tell(`accepted, ${some(warnings, "warning")}`, "warning");
+  else theProgram.tell("accepted", "good");
 }
 
 /** Asks whether the program is right, marks its faults, and asks the chosen question. */
@@ -718,7 +857,8 @@ async function inquire() {
   if (!asker) return;
   clearTimeout(timer);
   asker.stop();
-  const number = ++asked, isStale = () => number !== asked, its = QUESTIONS[question], begin = performance.now();
+  const number = ++asked, isStale = () => number !== asked, begin = performance.now();
+  const its = QUESTIONS[question];
   offerTypes();
   by("left-part").hidden = !its.left;
   by("right-part").hidden = !its.right;
@@ -736,12 +876,13 @@ async function inquire() {
     const all = {[PROGRAM]: theProgram.bytes, [DOCUMENT]: theDocument.bytes};
     const checked = await asker.answer(["check", PROGRAM], [[PROGRAM, all[PROGRAM]]]);
     if (isStale() || !checked) return;
-    const found = messages(theProgram, checked.text), faults = found.filter(it => it.kind === "fault").length, warnings = found.length - faults;
+    const found = messages(theProgram, checked.text);
+    const faults = found.filter(it => it.kind === "fault").length;
     theProgram.mark(found.filter(it => it.place));
     if (isFresh && theProgram.marks.length) theProgram.reveal(theProgram.marks[0].begin);
-    if (refusal(checked)) theProgram.tell("no answer", "fault");
-    else theProgram.tell(faults ? `${faults} fault${faults > 1 ? "s" : ""}` : warnings ? `accepted, ${warnings} warning${warnings > 1 ? "s" : ""}` : "accepted", faults ? "fault" : warnings ? "warning" : "good");
-    const answer = question === "check" ? checked : await asker.answer(words, [PROGRAM, ...its.texts].map(it => [it, all[it]]));
+    tellChecked(checked, faults, found.length - faults);
+    const texts = [PROGRAM, ...its.texts].map(it => [it, all[it]]);
+    const answer = question === "check" ? checked : await asker.answer(words, texts);
     if (isStale() || !answer) return;
     const told = answer.status === 1 ? messages(theProgram, answer.text) : [];
     const parts = refusal(answer) ?? (answer.status === 1 && question !== "check"
@@ -754,7 +895,8 @@ async function inquire() {
     if (!faults && question !== "types") await lookAtVariables();
     if (!isStale()) theProgram.caret();
   } catch (fault) {
-    answered([line("The page has a fault of its own, and goes on with the next change.", "first bad"), line(String(fault))], words, null);
+    const told = "The page has a fault of its own, and goes on with the next change.";
+    answered([line(told, "first bad"), line(String(fault))], words, null);
   } finally {
     clearInterval(clock);
     if (!isStale()) running("");
@@ -765,12 +907,15 @@ function stop() {
   asked++;
   asker.stop();
   running("");
-  answered([line("Stopped. The page asks again after the next change.", "first odd")], QUESTIONS[question].words(chosen()), null);
+  const told = line("Stopped. The page asks again after the next change.", "first odd");
+  answered([told], QUESTIONS[question].words(chosen()), null);
 }
 
 function choose(name) {
   question = QUESTIONS[name] ? name : "check";
-  for (const it of document.querySelectorAll("#questions input")) it.checked = it.value === question;
+  for (const it of document.querySelectorAll("#questions input")) {
+    it.checked = it.value === question;
+  }
 }
 
 // ---------------------------------------------------------------- Examples and links
@@ -786,24 +931,37 @@ function example(number) {
   inquire();
 }
 
-const through = async (bytes, stream) => new Uint8Array(await new Response(new Blob([bytes]).stream().pipeThrough(stream)).arrayBuffer());
+/** What becomes of bytes in a stream that packs or unpacks. */
+async function through(bytes, stream) {
+  const made = new Response(new Blob([bytes]).stream().pipeThrough(stream));
+  return new Uint8Array(await made.arrayBuffer());
+}
+
+const unpacked = bytes => through(bytes, new DecompressionStream("gzip"));
+const bytesOf = text => Uint8Array.from(atob(text), it => it.charCodeAt(0));
+
+const CUT = "This link is cut or changed, so its texts can't be had.";
 
 async function link() {
   const held = {program: theProgram.text, document: theDocument.text, question, ...chosen()};
   const bytes = await through(coder.encode(JSON.stringify(held)), new CompressionStream("gzip"));
   let text = "";
-  for (let at = 0; at < bytes.length; at += 8192) text += String.fromCharCode(...bytes.subarray(at, at + 8192));
+  for (let at = 0; at < bytes.length; at += 8192) {
+    text += String.fromCharCode(...bytes.subarray(at, at + 8192));
+  }
   const address = btoa(text).replaceAll("+", "-").replaceAll("/", "_").replace(/=+$/, "");
   link.own = `#1.${address}`;
   location.hash = link.own;
-  let said = `The address of this page has both texts now, in ${counted(location.href.length)} characters`;
+  const length = location.href.length;
+  let said = `The address of this page has both texts now, in ${counted(length)} characters`;
   try {
     await navigator.clipboard.writeText(location.href);
     said += ", and is copied";
   } catch {
     // (a page may lack the right to copy)
   }
-  theProgram.keep(location.href.length > 8000 ? `${said}. Some programs cut an address of that length.` : `${said}.`);
+  const more = length > 8000 ? " Some programs cut an address of that length." : "";
+  theProgram.keep(`${said}.${more}`);
 }
 
 /** Takes the texts of the address; whether it has some. */
@@ -812,9 +970,11 @@ async function follow() {
   if (!hash || hash === link.own) return Boolean(hash);
   try {
     if (!hash.startsWith("#1.")) throw new Error("another form");
-    const bytes = Uint8Array.from(atob(hash.slice(3).replaceAll("-", "+").replaceAll("_", "/")), it => it.charCodeAt(0));
-    const held = JSON.parse(new TextDecoder("utf-8", {fatal: true}).decode(await through(bytes, new DecompressionStream("gzip"))));
-    if (typeof held.program !== "string" || typeof held.document !== "string") throw new Error("no texts");
+    const bytes = await unpacked(bytesOf(hash.slice(3).replaceAll("-", "+").replaceAll("_", "/")));
+    const held = JSON.parse(new TextDecoder("utf-8", {fatal: true}).decode(bytes));
+    if (![held.program, held.document].every(it => typeof it === "string")) {
+      throw new Error("no texts");
+    }
     wanted = {left: held.left, right: held.right};
     if (/^\d+$/.test(held.fuel)) by("fuel").value = held.fuel;
     choose(held.question);
@@ -836,40 +996,60 @@ async function follow() {
 /** A module of nothing but a memory with 64-bit addresses. */
 const WITH_64_BITS = new Uint8Array([0, 97, 115, 109, 1, 0, 0, 0, 5, 3, 1, 4, 0]);
 
+const LACKS = "This browser can't run the program: it has no WebAssembly memory with 64-bit "
+  + "addresses. Chrome and Edge have it from version 133, Firefox from 134.";
+const INSTEAD = "Else the program itself answers, from a shell: ./xduce check program.x";
+
+/** The program, compiled; null where the browser has no such memory. */
 async function load() {
-  const has = globalThis.WebAssembly && WebAssembly.validate(WITH_64_BITS) && globalThis.DecompressionStream;
-  if (!has) return null;
-  const bytes = Uint8Array.from(atob(by("module").textContent.trim()), it => it.charCodeAt(0));
-  return WebAssembly.compile(await through(bytes, new DecompressionStream("gzip")));
+  const has = globalThis.WebAssembly && WebAssembly.validate(WITH_64_BITS);
+  if (!has || !globalThis.DecompressionStream) return null;
+  return WebAssembly.compile(await unpacked(bytesOf(by("module").textContent.trim())));
 }
 
 function lay() {
   by("made").textContent = DATA.made;
   by("trust").textContent = DATA.trust;
-  by("examples").append(element("option", {value: ""}, "choose one"), ...DATA.examples.map((it, number) => element("option", {value: number}, it.title)));
-  by("examples").addEventListener("change", event => { if (event.target.value !== "") example(Number(event.target.value)); });
+  const option = (value, text) => element("option", {value}, text);
+  by("examples").append(option("", "choose one"));
+  by("examples").append(...DATA.examples.map((it, number) => option(number, it.title)));
+  by("examples").addEventListener("change", ({target}) => {
+    if (target.value !== "") example(Number(target.value));
+  });
   for (const [name, {title}] of Object.entries(QUESTIONS)) {
-    const choice = element("input", {type: "radio", name: "question", value: name, checked: name === question});
+    const choice = element("input", {type: "radio", name: "question", value: name});
     choice.addEventListener("change", () => { choose(name); inquire(); });
     by("questions").append(element("label", {}, choice, title));
   }
-  for (const id of ["left", "right"]) by(id).addEventListener("change", () => { wanted[id] = by(id).value; inquire(); });
+  for (const id of ["left", "right"]) {
+    by(id).addEventListener("change", () => {
+      wanted[id] = by(id).value;
+      inquire();
+    });
+  }
   by("fuel").addEventListener("input", changed);
   by("stop").addEventListener("click", stop);
   by("link").addEventListener("click", link);
   by("theme").addEventListener("click", () => {
-    const isDark = document.documentElement.classList.contains("dark") || !document.documentElement.classList.contains("light") && matchMedia("(prefers-color-scheme: dark)").matches;
-    document.documentElement.className = isDark ? "light" : "dark";
+    const root = document.documentElement;
+    const isDark = matchMedia("(prefers-color-scheme: dark)").matches;
+    const now = root.className || (isDark ? "dark" : "light");
+    root.className = now === "dark" ? "light" : "dark";
   });
-  document.addEventListener("selectionchange", () => [theProgram, theDocument].forEach(it => document.activeElement === it.textarea && it.caret()));
+  document.addEventListener("selectionchange", () => {
+    [theProgram, theDocument].find(it => it.textarea === document.activeElement)?.caret();
+  });
   document.addEventListener("keydown", event => {
     if (event.key === "Escape" && !by("stop").hidden) stop();
-    if (event.key === "Enter" && (event.ctrlKey || event.metaKey)) { event.preventDefault(); inquire(); }
+    if (event.key === "Enter" && (event.ctrlKey || event.metaKey)) {
+      event.preventDefault();
+      inquire();
+    }
   });
   addEventListener("dragover", event => event.preventDefault());
   addEventListener("drop", event => event.preventDefault());
   addEventListener("hashchange", async () => {
-    if (!await follow() && follow.isCut) theProgram.keep("This link is cut or changed, so its texts can't be had. What stood here stays.");
+    if (!await follow() && follow.isCut) theProgram.keep(`${CUT} What stood here stays.`);
     follow.isCut = false;
   });
 }
@@ -894,12 +1074,11 @@ async function begin() {
     const isCut = follow.isCut;
     example(0);
     by("examples").value = "0";
-    if (isCut) theProgram.keep("This link is cut or changed, so its texts can't be had. Here is an example.");
+    if (isCut) theProgram.keep(`${CUT} Here is an example.`);
     follow.isCut = false;
   }
   if (!program) {
-    answered([line("This browser can't run the program: it has no WebAssembly memory with 64-bit addresses. Chrome and Edge have it from version 133, Firefox from 134.", "first bad"),
-      line(`Else the program itself answers, from a shell: ./xduce check program.x${fault}`)], ["check", PROGRAM], null);
+    answered([line(LACKS, "first bad"), line(`${INSTEAD}${fault}`)], ["check", PROGRAM], null);
   }
   document.documentElement.dataset.ready = "yes";
 }
