@@ -228,7 +228,7 @@ class Pane {
     const height = this.pre.scrollHeight / lines.length;
     const width = this.pre.scrollWidth / lines.reduce((most, it) => Math.max(most, it.length), 1);
     this.editor.scrollTop = Math.max(0, line * height - this.editor.clientHeight / 2);
-    this.editor.scrollLeft = Math.max(0, (column + 20) * width - this.editor.clientWidth);
+    this.editor.scrollLeft = Math.max(0, (column + 8) * width - this.editor.clientWidth);
   }
 
   /** The same, with the caret there. */

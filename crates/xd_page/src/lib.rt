@@ -31,7 +31,7 @@ fn add_words(alloc: Global, words: &[Word<'_>], found: &mut Vec<String>) -> Resu
         [first, more @ ..] => match std::str::from_utf8(first.bytes) {
             Ok(text) => {
                 found.push(String::from_str(alloc, text)?)?;
-                add_words(alloc, more, found)
+                Ok(add_words(alloc, more, found)?)
             }
             Err(_) => Ok(false),
         },
