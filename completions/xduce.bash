@@ -53,20 +53,30 @@ _xduce() {
 
 # The scripts: their options, types of the file that is their first word, and else files.
 _xduce_script() {
-    local word=${COMP_WORDS[COMP_CWORD]} script=${COMP_WORDS[0]##*/xduce-} file='' place=0 each
-    local options='format:--flat'
+    local word=${COMP_WORDS[COMP_CWORD]} script=${COMP_WORDS[0]##*/xduce-} file='' place=0 option='' each
+    local options='format:--flat where:--all where:--places='
     script=${script#xduce-}
     COMPREPLY=()
     if [[ $word == -* ]]; then
         for each in $options; do
+            each=${each%=}
             [[ $each == "$script:$word"* ]] && COMPREPLY+=("${each#*:}")
         done
         return 0
     fi
-    for each in "${COMP_WORDS[@]:1:COMP_CWORD}"; do
-        [[ $each == -* ]] && continue
-        ((++place == 1)) && file=$each
+    # (a word after an option that has a value is that value, and a file)
+    for each in "${COMP_WORDS[@]:1:COMP_CWORD-1}"; do
+        if [[ $each == -* ]]; then
+            option=$each
+        elif [[ " $options " == *" $script:$option= "* ]]; then
+            option=''
+        else
+            ((++place == 1)) && file=$each
+            option=''
+        fi
     done
+    [[ " $options " == *" $script:$option= "* ]] && place=-1
+    ((++place))
     case $script:$place in
     versions:3 | where:2)
         _xduce_types "$file" "$word"
