@@ -6,7 +6,6 @@ import signal
 signal.signal(signal.SIGINT, signal.SIG_DFL)
 import argparse
 import difflib
-import errno
 import importlib.machinery
 import importlib.util
 import os
@@ -105,6 +104,14 @@ def parser(about, statuses=()):
     )
     found.add_argument("-h", "--help", action="help", help="write this")
     return found
+
+
+def words(form):
+    """The words after the script's name, where there are as many as its form has."""
+    if len(sys.argv) != len(form.split()) + 1 or sys.argv[1] in ("-h", "--help"):
+        print(f"usage: {own_name()} {form}", file=sys.stderr)
+        sys.exit(USAGE)
+    return sys.argv[1:]
 
 
 def read_bytes(name):
