@@ -7,4 +7,4 @@ pub cut_off : (status n m : ℕ) (text room : List ℕ) → n ≡ min (length te
     IsSent (record { status = status; text = text }) (n ≡ length room) (Some []) (Some (take n room)) 4
 cut_off status n m text room e r t l =
     let d : length (drop n text) ≡ length text - n = length-drop n text in
-    inr (refl, omega arith, take n text, drop n text, omega arith, sym (take-append-drop n text), t)
+    inr (refl, omega arith, (take n text, drop n text, omega arith, sym (take-append-drop n text), t))
