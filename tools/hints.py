@@ -682,9 +682,11 @@ class Explainer:
 
 
 def report(name, text, output, places=None):
-    """Writes what the program answered of a file that isn't accepted, as tools/explain does. A fault
-    without a place is one of a name on the command line."""
+    """Writes what the program answered of a file, as tools/explain does. A fault without a place is one
+    of a name on the command line."""
     source, explainer = shared.Source(name, text, places), Explainer(text, shared.ask_of_text)
+    for told in explainer.told(output):
+        source.report(told.start, told.message, told.hints, told.related)
     for line in output.splitlines():
         lacking = re.fullmatch(r"fault 15: type (\w+) is not defined", line)
         if lacking:
@@ -693,8 +695,6 @@ def report(name, text, output, places=None):
                 print(f"  = {hint}")
         elif not LINE.fullmatch(line):
             print(line)
-    for told in explainer.told(output):
-        source.report(told.start, told.message, told.hints, told.related)
 
 
 def of_document(data, text, at):
