@@ -142,8 +142,8 @@ def is_attribute(class_):
 
 class Content:
     """What types tell of the content of an element: whether it is mixed, so that a text may stand at each place between its
-    items; whether it has a text; and whether its texts are all named. Of several contents that an element may have, one that is
-    mixed is enough."""
+    items; whether it has a text; and whether its texts are all named. Of several contents that an element may have those count
+    that have the attributes and the children that came so far; one of them that is mixed is enough."""
 
     def __init__(self, rules, types):
         self.rules, self.types, self.known = rules, types, {}
@@ -153,14 +153,15 @@ class Content:
         self.is_listed = bool(classes) and all(not is_except and all(" ".join(it.split()) == it for it in names) for names, is_except in classes)
 
     def inside(self, label):
-        """The content of an element of this content with this label."""
+        """What is known of the content where an element with this label stands in it, and the content of that element."""
         if label not in self.known:
-            found = {}
+            found, having = {}, []
             for type_ in self.types:
-                for class_, content in self.rules.elements(type_):
-                    if shared.types.has(class_, label):
-                        found[content] = None
-            self.known[label] = self.rules.content(tuple(found))
+                its = [content for class_, content in self.rules.elements(type_) if shared.types.has(class_, label)]
+                found.update(dict.fromkeys(its))
+                having += [type_] if its else []
+            here = self.rules.content(tuple(having)) if having and len(having) < len(self.types) else self
+            self.known[label] = here, self.rules.content(tuple(found))
         return self.known[label]
 
 
