@@ -1,6 +1,7 @@
 """What is said of a fault beside its own words: what was expected, what is open, and what the slip
 looks like that people make who come from elsewhere. docs/reading-answers.md says more of each."""
 import re
+import time
 
 import notation
 import shared
@@ -199,6 +200,19 @@ def of_token(parsed, fault, names):
             is_top = each in names.types or each in names.functions
             if not is_top and (each == here or before[0] == "word"):
                 return ELSEWHERE[each] if each != "let" or fault.sort == "expression" else BEGINS
+    begins_line = not text[text.rfind("\n", 0, at) + 1:at].strip()
+    if kind == "word" and begins_line and behind[0] == "word" and kinds[index + 2:index + 3] in (["("], ["="]):
+        return " ".join([BEGINS] + [f"(did you mean {it}?)" for it in near(here, ["type", "fun"])])
+    if kind == "text" and before[0] == "word" and tokens.ends[index - 1] == at:
+        return f"the quote before {word} may be missing"
+    if "->" in can and kind in ("word", "label", "text", "(", "match") and (begins_line or before[0] == "="):
+        return "a clause has -> between its pattern and its expression"
+    if "with" in can and kind in ("word", "label", "text", "(", "~", "^", "val"):
+        return "with stands between what is matched and the first clause"
+    if kind == "with" and can != {"word"}:
+        return "with belongs to a match: match E with P -> F"
+    if kind == "->" and fault.sort == "expression" and any(kinds[it] == "match" for it in fault.opened):
+        return "each further clause begins with |"
     if kind == "[" and before[0] == "word" and tokens.ends[index - 1] < at:
         return "a label is directly followed by its ["
     if kind == "[":
@@ -304,8 +318,9 @@ def syntax(parsed, fault, names):
 
 
 LINE = re.compile(r"(\d+):(\d+): ((?:fault|warning) (\d+): .*)")
-# The most clauses of a function that are asked about, one by one.
+# The most clauses of a function that are asked about, one by one, and the seconds for all of a text.
 MOST_CLAUSES = 60
+SECONDS = 10
 
 
 class Told:
@@ -326,7 +341,7 @@ class Explainer:
 
     def __init__(self, text, ask=None):
         self.text, self.ask, self.parsed = text, ask, notation.Parsed(text)
-        self.tokens = self.parsed.tokens
+        self.tokens, self.until = self.parsed.tokens, time.monotonic() + SECONDS
         self.names = notation.Names(self.parsed)
 
     def told(self, output):
@@ -374,10 +389,12 @@ class Explainer:
     def of_warning(self, told, index):
         """Which clause before takes the documents of one that is never reached, by programs that have
         only one of those before it."""
+        if not self.may_ask():
+            return
         match = next((it for it in reversed([*self.around(index)]) if it.kind == "match"
                       and any(part.kind == "clause" and part.parts[0].first <= index <= part.parts[0].last
                               for part in it.parts[1:])), None)
-        if not match or not self.ask:
+        if not match:
             return
         clauses = [it for it in match.parts[1:] if it.kind == "clause"]
         number = next(at for at, it in enumerate(clauses) if it.first <= index <= it.last)
@@ -425,6 +442,7 @@ class Explainer:
                     f', a text "{word}"' if is_content else ""))
             if word in names.functions:
                 told.hints.append(f"{word} is a function")
+            self.in_comment(told, "type", word)
         elif number == 6:
             told.hints += self.nearest(word, names.functions)
             if word in names.types:
@@ -433,6 +451,7 @@ class Explainer:
                 told.hints = [ELSEWHERE[word]]
             elif not told.hints and word not in names.types:
                 told.hints.append(f"an element is written {word}[..]")
+            self.in_comment(told, "fun", word)
         elif number == 7:
             scope = {it.name for it in names.in_scope(index)}
             told.hints += self.nearest(word, scope)
@@ -456,6 +475,14 @@ class Explainer:
                 self.of_result(told)
             elif number == 13:
                 self.of_argument(told)
+
+    def in_comment(self, told, keyword, word):
+        """Tells of a definition that a comment has taken in."""
+        for start, end in self.tokens.comments:
+            if re.search(rf"^\s*{keyword}\s+{word}\b", self.text[start + 2:end], re.M):
+                told.hints = [f"a comment has {keyword} {word} in it: it may not be closed where it should be"]
+                told.related.append((start, "the comment begins here"))
+                return
 
     @staticmethod
     def nearest(word, known):
@@ -535,6 +562,10 @@ class Explainer:
         index = self.tokens.index_at(at)
         return next((it for it in self.parsed.roots if it.kind == "fundef" and it.first <= index <= it.last), None)
 
+    def may_ask(self):
+        """Whether there is a program to ask, and time for it."""
+        return self.ask is not None and time.monotonic() < self.until
+
     def fresh(self):
         """A name that the program doesn't have."""
         name = "later"
@@ -559,7 +590,7 @@ class Explainer:
     def of_result(self, told):
         """Which clauses give a result that doesn't fit, each with a document."""
         function = self.function_at(told.start)
-        if not function or not self.ask:
+        if not function or not self.may_ask():
             return
         results = self.results(function.parts[-1])
         if not 1 < len(results) <= MOST_CLAUSES:
@@ -568,11 +599,14 @@ class Explainer:
         start, end = self.parsed.range(function.parts[-2])
         helper = f"\nfun {name} (val x as Any) : {self.text[start:end]} = {name}(())\n"
         for result in results:
+            if not self.may_ask():
+                told.hints.append("there may be more: that takes longer to find")
+                break
             document = self.alone(function, results, result, name, helper)
             if document is not None:
                 told.related.append((self.place(result.first), f"this result may be {document}"))
         if told.related:
-            told.hints = [f"the result's type hasn't it: {self.text_of(function.parts[-2])}"]
+            told.hints[0] = f"the result's type hasn't it: {self.text_of(function.parts[-2])}"
 
     def alone(self, function, results, kept, name, helper):
         """A document of a result that doesn't fit, by a program in which the others fit."""
@@ -598,7 +632,7 @@ class Explainer:
         the pattern that no run takes, and what to write then."""
         index = self.tokens.index_at(told.start)
         entity, function = self.names.at.get(index), self.function_at(told.start)
-        if not entity or entity.role != "variable" or not self.ask or len(entity.definitions) > 1:
+        if not entity or entity.role != "variable" or len(entity.definitions) > 1 or not self.may_ask():
             return
         wanted = self.parameter_of(index)
         if not wanted or not self.is_one_way(function, entity, wanted):
