@@ -479,7 +479,7 @@ class Explainer:
     def in_comment(self, told, keyword, word):
         """Tells of a definition that a comment has taken in."""
         for start, end in self.tokens.comments:
-            if re.search(rf"^\s*{keyword}\s+{word}\b", self.text[start + 2:end], re.M):
+            if re.search(rf"^\s*{keyword}\s+{re.escape(word)}\b", self.text[start + 2:end], re.M):
                 told.hints = [f"a comment has {keyword} {word} in it: it may not be closed where it should be"]
                 told.related.append((start, "the comment begins here"))
                 return
