@@ -1,2 +1,1 @@
-mod Rest
 mod Sent
