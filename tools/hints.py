@@ -11,7 +11,8 @@ MOST = 4
 # What is said of faults that need no look at the text.
 OF_FAULT = {
     3: "at most 256 brackets and parentheses may be open at a time",
-    10: "outside of labels a type may use itself only at the end of a sequence, and not under * or +",
+    10: "outside of labels a type may use itself only at the end of a sequence, "
+    "and not under * or +",
     11: "an item has to stand before it",
     12: "this document may come here, and no clause takes it",
     13: "the argument may be this document, and the parameter's type hasn't it",
@@ -34,8 +35,25 @@ ELSEWHERE = {
     "switch": "cases are written match E with P -> F | Q -> G",
     "return": "a function's body is an expression: its value needs no return",
     **dict.fromkeys(("import", "include", "open", "use", "using", "require", "module"), ONE_FILE),
-    **dict.fromkeys(("def", "function", "fn", "define", "start", "namespace", "default", "grammar",
-                     "interface", "class", "struct", "enum", "data", "datatype"), BEGINS),
+    **dict.fromkeys(
+        (
+            "def",
+            "function",
+            "fn",
+            "define",
+            "start",
+            "namespace",
+            "default",
+            "grammar",
+            "interface",
+            "class",
+            "struct",
+            "enum",
+            "data",
+            "datatype",
+        ),
+        BEGINS,
+    ),
     "element": "an element is written label[..]",
     "attribute": "an attribute is an element as others are: label[String]",
     "empty": "nothing is written ()",
@@ -44,9 +62,27 @@ ELSEWHERE = {
 }
 # Names of types that mean one here.
 TYPES = {
-    **dict.fromkeys(("string", "text", "PCDATA", "token", "Text", "str", "CDATA"), "a text is String"),
-    **dict.fromkeys(("int", "integer", "Int", "Integer", "number", "Number", "bool", "Bool", "boolean",
-                     "float", "double", "decimal", "date"), "texts are all of one type, String"),
+    **dict.fromkeys(
+        ("string", "text", "PCDATA", "token", "Text", "str", "CDATA"), "a text is String"
+    ),
+    **dict.fromkeys(
+        (
+            "int",
+            "integer",
+            "Int",
+            "Integer",
+            "number",
+            "Number",
+            "bool",
+            "Bool",
+            "boolean",
+            "float",
+            "double",
+            "decimal",
+            "date",
+        ),
+        "texts are all of one type, String",
+    ),
     **dict.fromkeys(("_", "any", "ANY", "anything"), "whatever comes is Any"),
     **dict.fromkeys(("empty", "EMPTY", "Empty", "unit", "void"), "nothing is written ()"),
 }
@@ -54,7 +90,8 @@ TYPES = {
 CHARACTERS = {
     ";": "nothing ends a definition or divides items but a comma",
     "'": "a text has double quotes",
-    "\u201c": 'a text has straight quotes, "', "\u201d": 'a text has straight quotes, "',
+    "\u201c": 'a text has straight quotes, "',
+    "\u201d": 'a text has straight quotes, "',
     "&": "there is no &: (A,B)|(B,A), and for many docs/language.md has a section on any order",
     "@": "there are no attributes: one is an element as others are, such as id[String]",
     "$": "a variable is written without $",
@@ -79,7 +116,11 @@ def place(tokens, at):
 def open_since(parsed, fault):
     """What is open at a fault, the innermost first, and of several also the outermost."""
     tokens, kinds = parsed.tokens, parsed.tokens.kinds
-    shown = [it for it in fault.opened if kinds[it] != "as" and (kinds[it] != "match" or "with" in fault.expected)]
+    shown = [
+        it
+        for it in fault.opened
+        if kinds[it] != "as" and (kinds[it] != "match" or "with" in fault.expected)
+    ]
     if not shown:
         return ""
     text = f"{tokens.spelling(shown[-1])} is open since {place(tokens, tokens.starts[shown[-1]])}"
@@ -102,24 +143,41 @@ def expected(parsed, fault):
 def run_over(parsed, fault):
     """A text or a comment before the fault that may have taken in more than was meant."""
     tokens, text = parsed.tokens, parsed.text
-    begin = next((it for it in range(fault.token - 1, -1, -1) if tokens.kinds[it] in ("type", "fun")
-                  and parsed.begins(it)), 0)
+    begin = next(
+        (
+            it
+            for it in range(fault.token - 1, -1, -1)
+            if tokens.kinds[it] in ("type", "fun") and parsed.begins(it)
+        ),
+        0,
+    )
     at = tokens.starts[fault.token]
     for start, end in reversed(tokens.comments):
         # (one that ends by the * of a type, and behind the fault there is another end of a comment)
-        if end <= at and (tokens.starts[begin] <= start or not begin or start >= tokens.ends[begin - 1]):
+        if end <= at and (
+            tokens.starts[begin] <= start or not begin or start >= tokens.ends[begin - 1]
+        ):
             later, next_begin = text.find("*)", at), text.find("(*", at)
             is_trap = re.search(r"[\w)\]]\*\)$", text[start:end])
-            if is_trap and (later >= 0 and not 0 <= next_begin < later or "(*" in text[start + 2:end]):
-                return (f"the comment that begins at {place(tokens, start)} ends at {place(tokens, end - 2)}, "
-                        "by the first *) in it: write a blank between * and )")
-            if "(*" in text[start + 2:end - 1]:
-                return (f"the comment that begins at {place(tokens, start)} ends at "
-                        f"{place(tokens, end - 2)}: comments don't nest, or it wasn't closed")
+            if is_trap and (
+                later >= 0 and not 0 <= next_begin < later or "(*" in text[start + 2 : end]
+            ):
+                return (
+                    f"the comment that begins at {place(tokens, start)} ends at "
+                    f"{place(tokens, end - 2)}, by the first *) in it: write a blank between * and )"
+                )
+            if "(*" in text[start + 2 : end - 1]:
+                return (
+                    f"the comment that begins at {place(tokens, start)} ends at "
+                    f"{place(tokens, end - 2)}: comments don't nest, or it wasn't closed"
+                )
     for index in range(fault.token - 1, begin - 1, -1):
         if tokens.kinds[index] == "text" and "\n" in tokens.spelling(index):
-            return (f"the text that begins at {place(tokens, tokens.starts[index])} goes on over lines: "
-                    "its quote may not be closed")
+            return (
+                f"the text that begins at {place(tokens, tokens.starts[index])} goes on over "
+                "lines: "
+                "its quote may not be closed"
+            )
     if fault.token in tokens.broken and tokens.kinds[fault.token] == "broken" and text[at] == '"':
         # The quote that is left over is often the last one of a line that lacks one further up.
         for index in range(fault.token - 1, begin - 1, -1):
@@ -131,7 +189,7 @@ def run_over(parsed, fault):
 def of_broken(parsed, fault):
     """What is said of what is no token."""
     tokens, text, at = parsed.tokens, parsed.text, parsed.tokens.starts[fault.token]
-    why, here, before = tokens.broken[fault.token], text[at:at + 40], text[:at]
+    why, here, before = tokens.broken[fault.token], text[at : at + 40], text[:at]
     previous = tokens.spelling(fault.token - 1) if fault.token else ""
     is_near = bool(fault.token) and tokens.ends[fault.token - 1] == at
     if why == "open comment":
@@ -140,11 +198,16 @@ def of_broken(parsed, fault):
         return "the text that begins here isn't closed"
     if why == "escape":
         wrong = re.search(r'\\[^"\\nt]', text[at:])
-        return (f'{wrong[0] if wrong else "this"} is no escape: there are \\" \\\\ \\n \\t, '
-                "and a backslash is written \\\\")
+        return (
+            f'{wrong[0] if wrong else "this"} is no escape: there are \\" \\\\ \\n \\t, '
+            "and a backslash is written \\\\"
+        )
     if here.startswith(("//", "/*", "--")):
-        return COMMENT + (", and there are no paths: a match takes a document apart"
-                          if here.startswith("//") and is_near else "")
+        return COMMENT + (
+            ", and there are no paths: a match takes a document apart"
+            if here.startswith("//") and is_near
+            else ""
+        )
     if here.startswith("<!--"):
         return COMMENT
     if re.match(r"</?[\w:!?]", here):
@@ -154,7 +217,7 @@ def of_broken(parsed, fault):
     if here[0] in "<>" and before.rstrip().endswith(("=", "-")) and here[0] == ">":
         return "a clause has ->, not =>"
     if here[0] in "<>":
-        return "texts can't be compared: a pattern such as \"x\" tells one"
+        return 'texts can\'t be compared: a pattern such as "x" tells one'
     if here.startswith("#PCDATA"):
         return "a text is String"
     if re.match(r"#\s*(include|import)", here):
@@ -172,7 +235,12 @@ def of_broken(parsed, fault):
         return f'there are no numbers: a text has quotes, "{number}"'
     if re.match(r"-\s*\d", here) and not is_near:
         return "there are no numbers: a text has quotes"
-    if here[0] == "-" and is_near and re.match(r"-\w", here) and tokens.kinds[fault.token - 1] == "word":
+    if (
+        here[0] == "-"
+        and is_near
+        and re.match(r"-\w", here)
+        and tokens.kinds[fault.token - 1] == "word"
+    ):
         return LETTERS
     if here[0] == "-":
         return "there is no difference of types: xduce minus shows one"
@@ -192,36 +260,59 @@ def of_token(parsed, fault, names):
     tokens, kinds, index = parsed.tokens, parsed.tokens.kinds, fault.token
     kind, at, text = kinds[index], tokens.starts[index], parsed.text
     here = tokens.spelling(index)
-    before = kinds[max(index - 3, 0):index][::-1] + ["", "", ""]
+    before = kinds[max(index - 3, 0) : index][::-1] + ["", "", ""]
     word = tokens.spelling(index - 1) if index else ""
-    can, behind = fault.kinds, kinds[index + 1:index + 3] + ["end", "end"]
+    can, behind = fault.kinds, kinds[index + 1 : index + 3] + ["end", "end"]
     for each in (word, here):
-        if each in ELSEWHERE and "word" in (kind, before[0]) and not (each == here and kind != "word"):
+        if (
+            each in ELSEWHERE
+            and "word" in (kind, before[0])
+            and not (each == here and kind != "word")
+        ):
             is_top = each in names.types or each in names.functions
             if not is_top and (each == here or before[0] == "word"):
                 return ELSEWHERE[each] if each != "let" or fault.sort == "expression" else BEGINS
-    begins_line = not text[text.rfind("\n", 0, at) + 1:at].strip()
-    if kind == "word" and begins_line and behind[0] == "word" and kinds[index + 2:index + 3] in (["("], ["="]):
+    begins_line = not text[text.rfind("\n", 0, at) + 1 : at].strip()
+    if (
+        kind == "word"
+        and begins_line
+        and behind[0] == "word"
+        and kinds[index + 2 : index + 3] in (["("], ["="])
+    ):
         return " ".join([BEGINS] + [f"(did you mean {it}?)" for it in near(here, ["type", "fun"])])
     if kind == "text" and before[0] == "word" and tokens.ends[index - 1] == at:
         return f"the quote before {word} may be missing"
-    if "->" in can and kind in ("word", "label", "text", "(", "match") and (begins_line or before[0] == "="):
+    if (
+        "->" in can
+        and kind in ("word", "label", "text", "(", "match")
+        and (begins_line or before[0] == "=")
+    ):
         return "a clause has -> between its pattern and its expression"
     if "with" in can and kind in ("word", "label", "text", "(", "~", "^", "val"):
         return "with stands between what is matched and the first clause"
     if kind == "with" and can != {"word"}:
         return "with belongs to a match: match E with P -> F"
-    if kind == "->" and fault.sort == "expression" and any(kinds[it] == "match" for it in fault.opened):
+    if (
+        kind == "->"
+        and fault.sort == "expression"
+        and any(kinds[it] == "match" for it in fault.opened)
+    ):
         return "each further clause begins with |"
     if kind == "[" and before[0] == "word" and tokens.ends[index - 1] < at:
         return "a label is directly followed by its ["
     if kind == "[":
-        return "an element has a label before its [, and what belongs together stands in parentheses"
+        return (
+            "an element has a label before its [, and what belongs together stands in parentheses"
+        )
     if "val" in can and len(can) == 1:
         if kind == ")":
             return "a function has at least one parameter: (val x as T)"
         name = here if kind == "word" else "x"
-        type_ = tokens.spelling(index + 2) if kind == "word" and behind[0] in ("as", ":") and behind[1] in ("word",) else "T"
+        type_ = (
+            tokens.spelling(index + 2)
+            if kind == "word" and behind[0] in ("as", ":") and behind[1] in ("word",)
+            else "T"
+        )
         return f"a parameter is written (val {name} as {type_})"
     if kind == "=" and before[0] == "=" or kind == "=" and before[0] == ":":
         return "a definition has one =: type A = .."
@@ -229,7 +320,12 @@ def of_token(parsed, fault, names):
         return "a type stands after as: val x as T"
     if kind == ":" and before[1] == "type":
         return "a type is defined by =: type A = .."
-    if kind == ":" and re.match(r":\w", text[at:at + 2]) and before[0] == "word" and tokens.ends[index - 1] == at:
+    if (
+        kind == ":"
+        and re.match(r":\w", text[at : at + 2])
+        and before[0] == "word"
+        and tokens.ends[index - 1] == at
+    ):
         return LETTERS
     if kind == "=" and before[0] == ")" and ":" in can:
         return "a function says the type of its result: (val x as T) : T ="
@@ -240,7 +336,11 @@ def of_token(parsed, fault, names):
         if word in names.types and other not in names.types:
             return f"a variable stands before its type: val {other} as {word}"
         return f"a variable has val before it: val {word} as {other}"
-    if before[0] == "word" and before[1] == "val" and kind in ("word", "label", "(", "text", "~", "^"):
+    if (
+        before[0] == "word"
+        and before[1] == "val"
+        and kind in ("word", "label", "(", "text", "~", "^")
+    ):
         return f"as is missing: val {word} as {here}{']' if kind == 'label' else ''}"
     if kind == "val" and "a type" in fault.expected:
         if before[0] == "," and fault.opened and kinds[fault.opened[-1] + 1] == "val":
@@ -251,13 +351,19 @@ def of_token(parsed, fault, names):
     if kind == "|" and before[0] in ("with", "="):
         return "no | stands before the first one"
     if kind == "|" and "->" in can:
-        return "in a match | begins a clause: a pattern with a choice at its top stands in parentheses"
+        return (
+            "in a match | begins a clause: a pattern with a choice at its top stands in parentheses"
+        )
     if kind in ("type", "fun", "end") and before[0] in (",", "|"):
         return f"after {'the comma' if before[0] == ',' else before[0]} a part is missing"
     if kind in ("]", ")") and before[0] in (",", "|"):
         return f"after {'the comma' if before[0] == ',' else before[0]} a part is missing"
     if kind == ",":
-        return "before the comma a part is missing" if before[0] in (",", "[", "(", "label", "|") else None
+        return (
+            "before the comma a part is missing"
+            if before[0] in (",", "[", "(", "label", "|")
+            else None
+        )
     if kind in ("*", "+", "?") and before[0] in ("*", "+", "?") and not fault.sort == "expression":
         return f"one of * + ? stands after a part, and more need parentheses: (T{before[0]}){kind}"
     if fault.sort == "expression" and kind in ("+", "^"):
@@ -272,13 +378,22 @@ def of_token(parsed, fault, names):
         closed = "]" if kind == ")" else ")"
         if closed in can:
             return f"{closed} has to come first"
-    if fault.sort == "expression" and kind in ("word", "text", "label") and before[0] == "word" and "(" in can:
+    if (
+        fault.sort == "expression"
+        and kind in ("word", "text", "label")
+        and before[0] == "word"
+        and "(" in can
+    ):
         if word in names.functions or kind == "word":
             shown = f"{here}..]" if kind == "label" else here
-            return f"an argument stands in parentheses, {word}({shown}), and items have commas between them"
+            return (
+                f"an argument stands in parentheses, {word}({shown}), "
+                "and items have commas between them"
+            )
     begins_part = kind in ("word", "label", "text", "(", "~", "^", "val", "match")
     if begins_part and "," in can and before[0] in ("]", ")", "text", "word", "*", "+", "?"):
-        return f"items have commas between them: one is missing before {here if len(here) < 20 else kind}"
+        shown = here if len(here) < 20 else kind
+        return f"items have commas between them: one is missing before {shown}"
     if kind == "->" and "=" in can:
         return "the type of a function's result stands after :"
     if kind == "->" and not fault.opened:
@@ -304,8 +419,11 @@ def syntax(parsed, fault, names):
     if index not in tokens.broken:
         found.append(expected(parsed, fault))
     over = run_over(parsed, fault)
-    if over and not (index in tokens.broken and tokens.broken[index] == "character"
-                     and parsed.text[tokens.starts[index]] in "\ufeff"):
+    if over and not (
+        index in tokens.broken
+        and tokens.broken[index] == "character"
+        and parsed.text[tokens.starts[index]] in "\ufeff"
+    ):
         found.append(over)
         if index in tokens.broken and tokens.broken[index] != "character":
             return found
@@ -318,7 +436,8 @@ def syntax(parsed, fault, names):
 
 
 LINE = re.compile(r"(\d+):(\d+): ((?:fault|warning) (\d+): .*)")
-# The most clauses of a function that are asked about, one by one, and the seconds for all of a text.
+# The most clauses of a function that are asked about, one by one, and the seconds for all of a
+# text.
 MOST_CLAUSES = 60
 SECONDS = 10
 
@@ -365,7 +484,9 @@ class Explainer:
         if is_warning:
             self.of_warning(told, index)
         elif number == 2 or number == 3:
-            fault = next((it for it in self.parsed.faults if self.tokens.starts[it.token] == at), None)
+            fault = next(
+                (it for it in self.parsed.faults if self.tokens.starts[it.token] == at), None
+            )
             told.hints = syntax(self.parsed, fault, self.names) if fault else []
         elif number == 1:
             told.hints = ["save the file as UTF-8, as iconv -f latin1 -t utf-8 does"]
@@ -387,13 +508,22 @@ class Explainer:
         return self.tokens.starts[index]
 
     def of_warning(self, told, index):
-        """Which clause before takes the documents of one that is never reached, by programs that have
-        only one of those before it."""
+        """Which clause before takes the documents of one that is never reached, by programs that
+        have only one of those before it."""
         if not self.may_ask():
             return
-        match = next((it for it in reversed([*self.around(index)]) if it.kind == "match"
-                      and any(part.kind == "clause" and part.parts[0].first <= index <= part.parts[0].last
-                              for part in it.parts[1:])), None)
+        match = next(
+            (
+                it
+                for it in reversed([*self.around(index)])
+                if it.kind == "match"
+                and any(
+                    part.kind == "clause" and part.parts[0].first <= index <= part.parts[0].last
+                    for part in it.parts[1:]
+                )
+            ),
+            None,
+        )
         if not match:
             return
         clauses = [it for it in match.parts[1:] if it.kind == "clause"]
@@ -410,7 +540,9 @@ class Explainer:
                 found = re.fullmatch(r"(\d+):(\d+): warning 1: .*", line)
                 if found and at <= tokens.offset(int(found[1]), int(found[2])) < at + end - start:
                     if other:
-                        told.related.append((self.place(other.first), "this clause takes all that could come to it"))
+                        told.related.append(
+                            (self.place(other.first), "this clause takes all that could come to it")
+                        )
                     else:
                         told.hints.append("what stands after match can't be what its pattern takes")
                     return
@@ -438,8 +570,9 @@ class Explainer:
                 told.hints = [TYPES[word]]
             elif not told.hints:
                 is_content = kinds[index - 1] in ("label", "[", "|", ",", "(")
-                told.hints.append(f"an element is written {word}[]" + (
-                    f', a text "{word}"' if is_content else ""))
+                told.hints.append(
+                    f"an element is written {word}[]" + (f', a text "{word}"' if is_content else "")
+                )
             if word in names.functions:
                 told.hints.append(f"{word} is a function")
             self.in_comment(told, "type", word)
@@ -479,8 +612,10 @@ class Explainer:
     def in_comment(self, told, keyword, word):
         """Tells of a definition that a comment has taken in."""
         for start, end in self.tokens.comments:
-            if re.search(rf"^\s*{keyword}\s+{re.escape(word)}\b", self.text[start + 2:end], re.M):
-                told.hints = [f"a comment has {keyword} {word} in it: it may not be closed where it should be"]
+            if re.search(rf"^\s*{keyword}\s+{re.escape(word)}\b", self.text[start + 2 : end], re.M):
+                told.hints = [
+                    f"a comment has {keyword} {word} in it: it may not be closed where it should be"
+                ]
                 told.related.append((start, "the comment begins here"))
                 return
 
@@ -507,7 +642,9 @@ class Explainer:
         given = [it.parts[0] if it.kind == "group" else it for it in node.parts]
         if len(given) == 1 and given[0].kind == "seq" and len(given[0].parts) == len(wanted):
             groups = "".join(f"({self.text_of(it)})" for it in given[0].parts)
-            told.hints.append(f"each argument has parentheses of its own: {self.tokens.word(index)}{groups}")
+            told.hints.append(
+                f"each argument has parentheses of its own: {self.tokens.word(index)}{groups}"
+            )
         elif len(given) < len(wanted):
             told.hints.append("each argument has parentheses of its own: f(x)(y)")
 
@@ -532,35 +669,63 @@ class Explainer:
                 around.append(node)
         for node in around:
             if node.kind in ("*", "+", "?"):
-                told.hints.append(f"under {node.kind} it could be bound more than once, or never" if node.kind != "?"
-                                  else "under ? it might not be bound")
+                told.hints.append(
+                    f"under {node.kind} it could be bound more than once, or never"
+                    if node.kind != "?"
+                    else "under ? it might not be bound"
+                )
                 inner = around[-1].parts[0] if around[-1].parts else None
                 type_ = self.text_of(inner) if inner else "Any"
                 type_ = f"({type_})" if inner and inner.kind in ("seq", "alt") else type_
-                told.hints.append("to have the whole row, put the variable around it: "
-                                  f"val {word} as {type_}{node.kind}")
+                told.hints.append(
+                    "to have the whole row, put the variable around it: "
+                    f"val {word} as {type_}{node.kind}"
+                )
                 return
-        others = [it for it in notation.nodes_of(clause.parts[0])
-                  if it.kind == "val" and it.name is not None and self.tokens.word(it.name) == word and it.name < index]
+        others = [
+            it
+            for it in notation.nodes_of(clause.parts[0])
+            if it.kind == "val"
+            and it.name is not None
+            and self.tokens.word(it.name) == word
+            and it.name < index
+        ]
         for other in others:
-            if not any(node.kind == "alt" and not any(part.first <= other.name and index <= part.last for part in node.parts)
-                       and node.first <= other.name for node in around):
+            if not any(
+                node.kind == "alt"
+                and not any(part.first <= other.name and index <= part.last for part in node.parts)
+                and node.first <= other.name
+                for node in around
+            ):
                 told.hints.append(f"the pattern binds {word} twice: take two names")
                 told.related.append((self.place(other.name), "it is bound here, too"))
                 return
         for node in around:
             if node.kind == "alt":
                 for part in node.parts:
-                    bound = {self.tokens.word(it.name) for it in notation.nodes_of(part) if it.kind == "val" and it.name}
+                    bound = {
+                        self.tokens.word(it.name)
+                        for it in notation.nodes_of(part)
+                        if it.kind == "val" and it.name
+                    }
                     if word not in bound:
                         told.hints.append(f"each branch has to bind {word}, or none")
-                        told.related.append((self.place(part.first), f"this branch doesn't bind {word}"))
+                        told.related.append(
+                            (self.place(part.first), f"this branch doesn't bind {word}")
+                        )
                         return
 
     def function_at(self, at):
         """The function that an offset is in."""
         index = self.tokens.index_at(at)
-        return next((it for it in self.parsed.roots if it.kind == "fundef" and it.first <= index <= it.last), None)
+        return next(
+            (
+                it
+                for it in self.parsed.roots
+                if it.kind == "fundef" and it.first <= index <= it.last
+            ),
+            None,
+        )
 
     def may_ask(self):
         """Whether there is a program to ask, and time for it."""
@@ -628,11 +793,16 @@ class Explainer:
         return None
 
     def of_argument(self, told):
-        """Whether an argument that is a variable of a pattern gets what doesn't fit only by a way of
-        the pattern that no run takes, and what to write then."""
+        """Whether an argument that is a variable of a pattern gets what doesn't fit only by a way
+        of the pattern that no run takes, and what to write then."""
         index = self.tokens.index_at(told.start)
         entity, function = self.names.at.get(index), self.function_at(told.start)
-        if not entity or entity.role != "variable" or len(entity.definitions) > 1 or not self.may_ask():
+        if (
+            not entity
+            or entity.role != "variable"
+            or len(entity.definitions) > 1
+            or not self.may_ask()
+        ):
             return
         wanted = self.parameter_of(index)
         if not wanted or not self.is_one_way(function, entity, wanted):
@@ -671,21 +841,37 @@ class Explainer:
         """Whether what first ways give a variable fits the parameter's type, as `precise` and
         `subtype` say of a program in which all else is accepted."""
         name, parsed = self.fresh(), self.parsed
-        types = "".join(self.text[slice(*parsed.range(it))] + "\n" for it in parsed.roots if it.kind == "typedef")
-        others = "".join(self.signature(it, name) for it in parsed.roots if it.kind == "fundef" and it is not function)
+        types = "".join(
+            self.text[slice(*parsed.range(it))] + "\n"
+            for it in parsed.roots
+            if it.kind == "typedef"
+        )
+        others = "".join(
+            self.signature(it, name)
+            for it in parsed.roots
+            if it.kind == "fundef" and it is not function
+        )
         start, _ = parsed.range(function)
         body = self.rendered(function.parts[-1], name)
-        head = self.text[start:parsed.range(function.parts[-1])[0]]
+        head = self.text[start : parsed.range(function.parts[-1])[0]]
         result = self.text[slice(*parsed.range(function.parts[-2]))]
         helper = f"fun {name} (val x as Any) : {result} = {name}(())\n"
         changed = f"{types}{others}{helper}{head.rsplit('=', 1)[0]}= {body}\n"
         status, output = self.ask("precise", changed)
         if status:
             return False
-        own = [it for it in self.names.variables if it.role == "variable" and function.first <= it.definitions[0] <= function.last]
+        own = [
+            it
+            for it in self.names.variables
+            if it.role == "variable" and function.first <= it.definitions[0] <= function.last
+        ]
         again = notation.Parsed(changed)
         last = again.roots[-1]
-        those = [it for it in notation.Names(again).variables if it.role == "variable" and it.definitions[0] >= last.first]
+        those = [
+            it
+            for it in notation.Names(again).variables
+            if it.role == "variable" and it.definitions[0] >= last.first
+        ]
         if len(own) != len(those):
             return False
         at = those[own.index(entity)].definitions[0]
@@ -699,8 +885,10 @@ class Explainer:
 
     def signature(self, function, name):
         """A function whose body only calls it."""
-        head = self.text[self.parsed.range(function)[0]:self.parsed.range(function.parts[-1])[0]]
-        arguments = "".join(f"({self.tokens.word(it.name)})" for it in function.parts if it.kind == "param")
+        head = self.text[self.parsed.range(function)[0] : self.parsed.range(function.parts[-1])[0]]
+        arguments = "".join(
+            f"({self.tokens.word(it.name)})" for it in function.parts if it.kind == "param"
+        )
         return f"{head.rsplit('=', 1)[0]}= {self.tokens.word(function.name)}{arguments}\n"
 
     def rendered(self, node, name):
@@ -709,15 +897,19 @@ class Explainer:
             node = node.parts[0]
         if node.kind != "match":
             return f"{name}(())"
-        clauses = [f"{self.text[slice(*self.parsed.range(it.parts[0]))]} -> {self.rendered(it.parts[1], name)}"
-                   for it in node.parts[1:] if it.kind == "clause"]
+        clauses = [
+            f"{self.text[slice(*self.parsed.range(it.parts[0]))]}"
+            f" -> {self.rendered(it.parts[1], name)}"
+            for it in node.parts[1:]
+            if it.kind == "clause"
+        ]
         scrutinee = self.text[slice(*self.parsed.range(node.parts[0]))]
         return f"(match {scrutinee} with {' | '.join([*clauses, f'Any -> {name}(())'])})"
 
 
 def report(name, text, output, places=None):
-    """Writes what the program answered of a file, as tools/explain does. A fault without a place is one
-    of a name on the command line."""
+    """Writes what the program answered of a file, as tools/explain does. A fault without a place is
+    one of a name on the command line."""
     source, explainer = shared.Source(name, text, places), Explainer(text, shared.ask_of_text)
     for told in explainer.told(output):
         source.report(told.start, told.message, told.hints, told.related)
@@ -732,29 +924,38 @@ def report(name, text, output, places=None):
 
 
 def of_document(data, text, at):
-    """What a slip in a document looks like, at the place where no document goes on; text is data as far
-    as it is UTF-8."""
+    """What a slip in a document looks like, at the place where no document goes on; text is data as
+    far as it is UTF-8."""
     if at == len(text) and len(text.encode()) < len(data):
         byte = data[len(text.encode())]
         if data[:2] in (b"\xff\xfe", b"\xfe\xff"):
             return ["the file is UTF-16: save it as UTF-8"]
-        return [f"the byte 0x{byte:02X} isn't UTF-8: if the file is Latin-1, iconv -f latin1 -t utf-8 mends it"]
+        return [
+            f"the byte 0x{byte:02X} isn't UTF-8: if the file is Latin-1, "
+            "iconv -f latin1 -t utf-8 mends it"
+        ]
     front = text[:2000].lstrip("\ufeff \t\r\n")
-    here, before = text[at:at + 40], text[max(at - 100, 0):at]
+    here, before = text[at : at + 40], text[max(at - 100, 0) : at]
     if here.startswith("\ufeff"):
         return ["the file begins with a byte order mark: save it without"]
     if here.startswith("<"):
-        return ["this is XML: tools/xml in makes a document of it" if front.startswith("<") else
-                "this looks like XML: an element is written a[..]"]
+        return [
+            "this is XML: tools/xml in makes a document of it"
+            if front.startswith("<")
+            else "this looks like XML: an element is written a[..]"
+        ]
     if front[:1] in ("{", "[") and not before.strip():
         return ['this is JSON: what is "key": "value" there is key["value"] here']
     if re.match(r"(type|fun)\s", front) and not notation.Parsed(text[:100_000]).faults[:1]:
         return ["this is a program, and no document: FILE and TYPE stand before DOC"]
-    tokens = notation.Tokens(text[at:at + 100_000])
+    tokens = notation.Tokens(text[at : at + 100_000])
     why = tokens.broken.get(0)
     if why == "escape":
         wrong = re.search(r'\\[^"\\nt]', text[at:])
-        return [f'{wrong[0] if wrong else "this"} is no escape: there are \\" \\\\ \\n \\t, and a backslash is written \\\\']
+        return [
+            f'{wrong[0] if wrong else "this"} is no escape: there are \\" \\\\ \\n \\t, '
+            "and a backslash is written \\\\"
+        ]
     if why == "open text":
         return ["the text that begins here isn't closed"]
     if why == "open comment":

@@ -1,14 +1,15 @@
 """The one layout of programs: blanks and line ends alone change, so it is the same program.
 
-A program becomes pieces: words, places where a line may end, and groups of pieces, which stand in one
-line where they fit and else end a line at each of their places. A comment stays where it is between
-two words; where it had a line of its own, or ended one, it does so again.
+A program becomes pieces: words, places where a line may end, and groups of pieces, which stand in
+one line where they fit and else end a line at each of their places. A comment stays where it is
+between two words; where it had a line of its own, or ended one, it does so again.
 """
 import notation
 
 WIDTH, STEP = 100, 2
-# Pieces. A LINE is a blank or, in a group that doesn't fit, the end of a line; a SOFT one is nothing
-# or the end of a line; a HARD one always ends a line. A PAD stands only in groups that don't fit.
+# Pieces. A LINE is a blank or, in a group that doesn't fit, the end of a line; a SOFT one is
+# nothing or the end of a line; a HARD one always ends a line. A PAD stands only in groups that
+# don't fit.
 TEXT, LINE, SOFT, HARD, PAD, COMMENT, GROUP, NEST = range(8)
 A_LINE, A_SOFT, A_HARD = (LINE, None, 1, False), (SOFT, None, 0, False), (HARD, None, 0, True)
 TIGHT = ("]", ")", ",", "*", "+", "?")
@@ -35,8 +36,8 @@ class Layout:
         self.share_comments()
 
     def share_comments(self):
-        """Gives the comments between two words to the one before them, as far as they end its line, and
-        else to the one after, each with the ends of lines beside it."""
+        """Gives the comments between two words to the one before them, as far as they end its line,
+        and else to the one after, each with the ends of lines beside it."""
         tokens, source, index, runs = self.tokens, self.parsed.text, 0, {}
         for comment in tokens.comments:
             while tokens.starts[index] < comment[0]:
@@ -54,7 +55,7 @@ class Layout:
                 count = len(run)
             self.after[index - 1] = [(*run[it], gaps[it + 1]) for it in range(count)]
             self.before[index] = [
-                (*run[it], gaps[it] and any(gaps[it + 1:]), gaps[it + 1])
+                (*run[it], gaps[it] and any(gaps[it + 1 :]), gaps[it + 1])
                 for it in range(count, len(run))
             ]
 
@@ -81,7 +82,9 @@ class Layout:
         """The pieces of a definition; its parts are made before it."""
         made = {}
         for node in reversed([*notation.nodes_of(root)]):
-            made[id(node)] = getattr(self, f"of_{NAMES.get(node.kind, node.kind)}")(node, [made.pop(id(it)) for it in node.parts])
+            made[id(node)] = getattr(self, f"of_{NAMES.get(node.kind, node.kind)}")(
+                node, [made.pop(id(it)) for it in node.parts]
+            )
         return made[id(root)]
 
     def row(self, node, parts):
@@ -100,7 +103,13 @@ class Layout:
         return pieces
 
     def of_typedef(self, node, parts):
-        head = [*self.token(node.first), text(" "), *self.token(node.name), text(" "), *self.token(node.name + 1)]
+        head = [
+            *self.token(node.first),
+            text(" "),
+            *self.token(node.name),
+            text(" "),
+            *self.token(node.name + 1),
+        ]
         inner = node.parts[0]
         while inner.kind in ("*", "+", "?"):
             inner = inner.parts[0]
@@ -113,15 +122,31 @@ class Layout:
         head = [*self.token(node.first), text(" "), *self.token(node.name)]
         inner = [piece for part in parts[:count] for piece in (A_LINE, group(part))]
         result, body = node.parts[-2:]
-        inner += [text(" "), *self.token(result.first - 1), text(" "), group(parts[-2]), text(" "), *self.token(body.first - 1)]
+        inner += [
+            text(" "),
+            *self.token(result.first - 1),
+            text(" "),
+            group(parts[-2]),
+            text(" "),
+            *self.token(body.first - 1),
+        ]
         whole = [group([*head, nest(2 * STEP, inner)])]
         if body.kind == "match":
             return [*whole, nest(STEP, [A_HARD, *parts[-1]])]
         return [group([*whole, nest(STEP, [A_LINE, group(parts[-1])])])]
 
     def of_param(self, node, parts):
-        return [*self.token(node.first), *self.token(node.first + 1), text(" "), *self.token(node.name), text(" "),
-                *self.token(node.name + 1), text(" "), nest(STEP, [group(parts[0])]), *self.token(node.last)]
+        return [
+            *self.token(node.first),
+            *self.token(node.first + 1),
+            text(" "),
+            *self.token(node.name),
+            text(" "),
+            *self.token(node.name + 1),
+            text(" "),
+            nest(STEP, [group(parts[0])]),
+            *self.token(node.last),
+        ]
 
     def of_leaf(self, node, parts):
         return self.tight(node.first, node.last)
@@ -178,8 +203,8 @@ NAMES = {
 
 
 def fits(room, following, whole):
-    """Whether the next pieces fit up to a place where the line may end. What follows the group is on a
-    stack of its own, which is looked at from its end."""
+    """Whether the next pieces fit up to a place where the line may end. What follows the group is
+    on a stack of its own, which is looked at from its end."""
     waiting, rest = [whole], len(following)
     while room >= 0:
         if not waiting:
@@ -262,7 +287,9 @@ def laid_out(source, parsed=None):
         return source
     layout, tokens = Layout(parsed), parsed.tokens
     # Comments between definitions belong to none.
-    for first in [*(root.first for root in parsed.roots[1:]), len(tokens.kinds) - 1] if parsed.roots else ():
+    for first in (
+        [*(root.first for root in parsed.roots[1:]), len(tokens.kinds) - 1] if parsed.roots else ()
+    ):
         behind = layout.after.pop(first - 1, [])
         layout.before[first] = behind + layout.before.get(first, [])
     lines, end = [], 0
@@ -277,7 +304,7 @@ def laid_out(source, parsed=None):
                 lines += [""] * (gap > 1 and bool(lines)) + [source[start:stop]]
             end = stop
         if root:
-            gap = source[end:tokens.starts[first]].count("\n") if lines else 0
+            gap = source[end : tokens.starts[first]].count("\n") if lines else 0
             lines += [""] * (gap > 1)
             lines.append(printed(layout.pieces(root)))
             end = tokens.ends[root.last]

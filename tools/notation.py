@@ -104,11 +104,11 @@ class Tokens:
         return "escape" if WRONG_ESCAPE.match(text, start) else "open text", end
 
     def spelling(self, index):
-        return self.text[self.starts[index]:self.ends[index]]
+        return self.text[self.starts[index] : self.ends[index]]
 
     def word(self, index):
         """The spelling of a word or label, without the bracket."""
-        return self.text[self.starts[index]:self.ends[index]].rstrip("[")
+        return self.text[self.starts[index] : self.ends[index]].rstrip("[")
 
     def place(self, at):
         """The line and the column of an offset, both from 1."""
@@ -191,8 +191,13 @@ TREES = {
     "%Parts": [", %Part !seq %MoreParts", ""],
     "%MoreParts": [", %Part !more %MoreParts", ""],
     "%Prim": [
-        "word !name", "text@ !texts", "~@ [<@ %Content", "label<@ !same %Content",
-        "^@ %Excepted", "(<@ %Group", "(<@ AnyWord MoreNames )> [<@ %Content",
+        "word !name",
+        "text@ !texts",
+        "~@ [<@ %Content",
+        "label<@ !same %Content",
+        "^@ %Excepted",
+        "(<@ %Group",
+        "(<@ AnyWord MoreNames )> [<@ %Content",
     ],
     "%Excepted": ["text !texts", "label<@ %Content", "(< %ExceptedList"],
     "%ExceptedList": ["text MoreTexts )> !texts", "AnyWord MoreNames )> [<@ %Content"],
@@ -208,8 +213,11 @@ RULES = {
     "Param": ["(<@ val word@ !param as Type !more )> !last"],
     "Params": ["Param !more Params", ""],
     "TypeText": ["Type end"],
-    **{nonterminal.replace("%", sort): [row.replace("%", sort) for row in rows]
-       for sort in ("Type", "Pattern") for nonterminal, rows in TREES.items()},
+    **{
+        nonterminal.replace("%", sort): [row.replace("%", sort) for row in rows]
+        for sort in ("Type", "Pattern")
+        for nonterminal, rows in TREES.items()
+    },
     "TypePart": ["TypePrim Operator"],
     "PatternPart": ["val@ word@ Bound", "PatternPrim Operator"],
     "Bound": ["as< PatternPart > !val", "!bare_val"],
@@ -221,7 +229,10 @@ RULES = {
     "Items": [", Item !seq MoreItems", ""],
     "MoreItems": [", Item !more MoreItems", ""],
     "Item": [
-        "text !text", "word@ Arguments", "label<@ !same ExprContent", "Paren",
+        "text !text",
+        "word@ Arguments",
+        "label<@ !same ExprContent",
+        "Paren",
         "match<@ Expr !match with Clause !more Clauses >",
     ],
     "ExprContent": ["]> !bare_elem", "Expr ]> !elem"],
@@ -240,36 +251,105 @@ RULES = {
 }
 # What each nonterminal and each token is called where it is expected.
 CALLED = {
-    "Type": "a type", "TypeRow": "a type", "TypePart": "a type", "TypePrim": "a type",
-    "Pattern": "a pattern", "PatternRow": "a pattern", "PatternPart": "a pattern",
-    "PatternPrim": "a pattern", "Clause": "a pattern", "Expr": "an expression",
-    "Item": "an expression", "Things": "an item", "Thing": "an item", "TypeParts": "a comma",
-    "TypeMoreParts": "a comma", "PatternParts": "a comma", "PatternMoreParts": "a comma",
-    "Items": "a comma", "MoreItems": "a comma", "MoreThings": "a comma",
-    "EvenMoreThings": "a comma", "TypeBranches": "|", "TypeMore": "|", "PatternBranches": "|",
-    "PatternMore": "|", "MoreNames": "|", "MoreTexts": "|", "Clauses": "| and a clause",
-    "word": "a name", "AnyWord": "a label", "Param": "a parameter (val x as T)",
-    "Params": "a parameter (val x as T)", "Bound": "as", "Program": "the next definition",
-    "TypeExcepted": "a label or a text", "PatternExcepted": "a label or a text",
-    "TypeExceptedList": "a label or a text", "PatternExceptedList": "a label or a text",
-    "TypeGroup": ("a type", ")"), "TypeContent": ("a type", "]"),
-    "PatternGroup": ("a pattern", ")"), "PatternContent": ("a pattern", "]"),
-    "ExprContent": ("an expression", "]"), "ParenContent": ("an expression", ")"),
-    "ThingContent": ("an item", "]"), "Document": ("an item", "()"), "TypeText": "a type",
-    "text": "a text", "label": "a label", "end": "the end", "Operator": "* + or ?",
-    "Arguments": "(", "MoreArguments": "(", "Paren": "(", ",": "a comma",
+    "Type": "a type",
+    "TypeRow": "a type",
+    "TypePart": "a type",
+    "TypePrim": "a type",
+    "Pattern": "a pattern",
+    "PatternRow": "a pattern",
+    "PatternPart": "a pattern",
+    "PatternPrim": "a pattern",
+    "Clause": "a pattern",
+    "Expr": "an expression",
+    "Item": "an expression",
+    "Things": "an item",
+    "Thing": "an item",
+    "TypeParts": "a comma",
+    "TypeMoreParts": "a comma",
+    "PatternParts": "a comma",
+    "PatternMoreParts": "a comma",
+    "Items": "a comma",
+    "MoreItems": "a comma",
+    "MoreThings": "a comma",
+    "EvenMoreThings": "a comma",
+    "TypeBranches": "|",
+    "TypeMore": "|",
+    "PatternBranches": "|",
+    "PatternMore": "|",
+    "MoreNames": "|",
+    "MoreTexts": "|",
+    "Clauses": "| and a clause",
+    "word": "a name",
+    "AnyWord": "a label",
+    "Param": "a parameter (val x as T)",
+    "Params": "a parameter (val x as T)",
+    "Bound": "as",
+    "Program": "the next definition",
+    "TypeExcepted": "a label or a text",
+    "PatternExcepted": "a label or a text",
+    "TypeExceptedList": "a label or a text",
+    "PatternExceptedList": "a label or a text",
+    "TypeGroup": ("a type", ")"),
+    "TypeContent": ("a type", "]"),
+    "PatternGroup": ("a pattern", ")"),
+    "PatternContent": ("a pattern", "]"),
+    "ExprContent": ("an expression", "]"),
+    "ParenContent": ("an expression", ")"),
+    "ThingContent": ("an item", "]"),
+    "Document": ("an item", "()"),
+    "TypeText": "a type",
+    "text": "a text",
+    "label": "a label",
+    "end": "the end",
+    "Operator": "* + or ?",
+    "Arguments": "(",
+    "MoreArguments": "(",
+    "Paren": "(",
+    ",": "a comma",
 }
 # What is told first where much may stand at a place.
 ORDER = [
-    "a type", "a pattern", "an expression", "an item", "a parameter (val x as T)", "a name",
-    "a label", "a label or a text", "a text", "val", "as", "with", "->", ":", "=", "[", "a comma",
-    "|", "| and a clause", "]", ")", "()", "the next definition", "the end", "(", "* + or ?",
+    "a type",
+    "a pattern",
+    "an expression",
+    "an item",
+    "a parameter (val x as T)",
+    "a name",
+    "a label",
+    "a label or a text",
+    "a text",
+    "val",
+    "as",
+    "with",
+    "->",
+    ":",
+    "=",
+    "[",
+    "a comma",
+    "|",
+    "| and a clause",
+    "]",
+    ")",
+    "()",
+    "the next definition",
+    "the end",
+    "(",
+    "* + or ?",
 ]
 # What goes on, by how the names of its nonterminals begin.
 SORTS = {
-    "Type": "type", "Pattern": "pattern", "Clause": "expression", "Expr": "expression",
-    "Item": "expression", "MoreItem": "expression", "Paren": "expression", "Thing": "item",
-    "MoreThing": "item", "EvenMoreThing": "item", "Document": "item", "->": "pattern",
+    "Type": "type",
+    "Pattern": "pattern",
+    "Clause": "expression",
+    "Expr": "expression",
+    "Item": "expression",
+    "MoreItem": "expression",
+    "Paren": "expression",
+    "Thing": "item",
+    "MoreThing": "item",
+    "EvenMoreThing": "item",
+    "Document": "item",
+    "->": "pattern",
 }
 CLOSING = {"]", ")"}
 # Where something around goes on after a fault. What was skipped holds no faults, and neither do the
@@ -300,47 +380,59 @@ def make(kind):
 
 def from_kept(kind):
     """The step that makes a node of a kept token, which is its name."""
+
     def step(values, last, opened):
         values[-1] = Node(kind, values[-1], last, values[-1], [])
+
     return step
 
 
 def from_two(kind):
     """The step that makes a node of two kept tokens: the first one, and its name."""
+
     def step(values, last, opened):
         name = values.pop()
         values[-1] = Node(kind, values[-1], last, name, [])
+
     return step
 
 
 def around(kind):
     """The step that makes a node of a kept token and the node inside."""
+
     def step(values, last, opened):
         inner = values.pop()
         values[-1] = Node(kind, values[-1], last, None, [inner])
+
     return step
 
 
 def named_around(kind):
     """The step that makes a node of two kept tokens and the node inside."""
+
     def step(values, last, opened):
         inner, name = values.pop(), values.pop()
         values[-1] = Node(kind, values[-1], last, name, [inner])
+
     return step
 
 
 def behind(kind):
     """The step that makes a node of the node before."""
+
     def step(values, last, opened):
         values[-1] = Node(kind, values[-1].first, last, None, [values[-1]])
+
     return step
 
 
 def both(kind):
     """The step that makes a node of two nodes."""
+
     def step(values, last, opened):
         right = values.pop()
         values[-1] = Node(kind, values[-1].first, last, None, [values[-1], right])
+
     return step
 
 
@@ -389,18 +481,42 @@ def missing_from(values, last, opened):
 
 
 STEPS = {
-    "define": from_two("typedef"), "function": from_two("fundef"), "param": from_two("param"),
-    "name": make("name"), "text": make("text"), "texts": from_kept("texts"), "empty": empty,
-    "elem": named_around("elem"), "bare_elem": from_two("elem"), "group": around("group"),
-    "val": named_around("val"), "bare_val": from_two("val"), "var": from_kept("var"), "call": call,
-    "match": around("match"), "clause": both("clause"), "seq": both("seq"), "alt": both("alt"),
-    "*": behind("*"), "+": behind("+"), "?": behind("?"), "more": more, "last": reach, "same": same,
+    "define": from_two("typedef"),
+    "function": from_two("fundef"),
+    "param": from_two("param"),
+    "name": make("name"),
+    "text": make("text"),
+    "texts": from_kept("texts"),
+    "empty": empty,
+    "elem": named_around("elem"),
+    "bare_elem": from_two("elem"),
+    "group": around("group"),
+    "val": named_around("val"),
+    "bare_val": from_two("val"),
+    "var": from_kept("var"),
+    "call": call,
+    "match": around("match"),
+    "clause": both("clause"),
+    "seq": both("seq"),
+    "alt": both("alt"),
+    "*": behind("*"),
+    "+": behind("+"),
+    "?": behind("?"),
+    "more": more,
+    "last": reach,
+    "same": same,
 }
-# What stands in for these nonterminals where they are missing: those that are in brackets close them.
+# What stands in for these nonterminals where they are missing: those that are in brackets close
+# them.
 DROPS = {
-    "Excepted": (missing_from,), "ExceptedList": (close, missing_from), "AnyWord": (),
-    "Group": (close, missing_from), "ParenContent": (close, missing_from), "Program": (),
-    "Content": (close, STEPS["bare_elem"]), "ExprContent": (close, STEPS["bare_elem"]),
+    "Excepted": (missing_from,),
+    "ExceptedList": (close, missing_from),
+    "AnyWord": (),
+    "Group": (close, missing_from),
+    "ParenContent": (close, missing_from),
+    "Program": (),
+    "Content": (close, STEPS["bare_elem"]),
+    "ExprContent": (close, STEPS["bare_elem"]),
     "ThingContent": (close, STEPS["bare_elem"]),
 }
 
@@ -414,8 +530,11 @@ def grammar():
         it = found[written] = Symbol()
         it.name, it.nothing = kind, None
         it[kind] = ("<" in marks) - (">" in marks), "@" in marks, None, ()
-        it.drop = ((open_none,) * ("<" in marks) + (close,) * (">" in marks)
-                   + (keep_none,) * ("@" in marks))
+        it.drop = (
+            (open_none,) * ("<" in marks)
+            + (close,) * (">" in marks)
+            + (keep_none,) * ("@" in marks)
+        )
         return it
 
     def part(written):
@@ -465,7 +584,8 @@ SYMBOLS = grammar()
 
 def is_list(kinds, at, is_pattern):
     """Whether the parenthesis at an index begins a list of labels, and no group: that is what goes
-    further. Words in a row may be both, and keywords only a list, but for the `val` of a pattern."""
+    further. Words in a row may be both, and keywords only a list, but for the `val` of a pattern.
+    """
     has_keyword = False
     while kinds[at + 1] in WORDS:
         kind = kinds[at + 1]
@@ -482,8 +602,8 @@ class Parsed:
     """What was read: its tokens, its definitions (or its one tree), and its faults in order.
 
     `expected` and `opened` are what may stand at the end, and what is open there: of a text that is
-    read up to some place, those of the place. Of a document there need be no tree: then it is read up
-    to its first fault.
+    read up to some place, those of the place. Of a document there need be no tree: then it is read
+    up to its first fault.
     """
 
     def __init__(self, text, start="Program", until=None, has_tree=True):
@@ -537,7 +657,7 @@ class Parsed:
                 opens, is_kept, step, behind = found
                 if opens > 0 and len(opened) >= limit:
                     number = 3
-                    del stack[top + 1:]
+                    del stack[top + 1 :]
                 else:
                     if opens:
                         if opens > 0:
@@ -600,11 +720,11 @@ class Parsed:
         if begin == tokens.starts[at]:
             return True
         sign = "=" if kinds[at] == "type" else "("
-        return tokens.ends[at - 1] <= begin and kinds[at + 1:at + 3] == ["word", sign]
+        return tokens.ends[at - 1] <= begin and kinds[at + 1 : at + 3] == ["word", sign]
 
     def takes(self, kind):
-        """The place on the stack of what goes on with a token; None if nothing does. A bar and a comma
-        don't go out of brackets."""
+        """The place on the stack of what goes on with a token; None if nothing does. A bar and a
+        comma don't go out of brackets."""
         for top in range(len(self.stack) - 1, -1, -1):
             symbol = self.stack[top]
             if symbol.__class__ is not Symbol:
@@ -649,8 +769,11 @@ class Parsed:
     def range(self, node):
         """Where a node begins and ends in the text."""
         starts, ends = self.tokens.starts, self.tokens.ends
-        return (starts[node.first], ends[node.last]) if node.last >= node.first else (
-            starts[min(node.first, len(starts) - 1)],) * 2
+        return (
+            (starts[node.first], ends[node.last])
+            if node.last >= node.first
+            else (starts[min(node.first, len(starts) - 1)],) * 2
+        )
 
     def word(self, index):
         return self.tokens.word(index) if index is not None else None
@@ -662,21 +785,31 @@ def class_named(names, is_except):
 
 
 def class_of(tokens, node):
-    """The class of labels or texts of a node: its names in order, and whether all but these are meant."""
+    """The class of labels or texts of a node: its names in order, and whether all but these are
+    meant."""
     kinds, last = tokens.kinds, node.last if node.kind == "texts" else node.name
     is_except = kinds[node.first] in ("^", "~")
     if node.kind == "texts":
-        names = {unescaped(tokens.spelling(it)) for it in range(node.first, last + 1) if kinds[it] == "text"}
+        names = {
+            unescaped(tokens.spelling(it))
+            for it in range(node.first, last + 1)
+            if kinds[it] == "text"
+        }
     elif last is None:
         return (), True
     else:
-        names = {tokens.word(it) for it in range(node.first, last + 1) if kinds[it] in WORDS or kinds[it] == "label"}
+        names = {
+            tokens.word(it)
+            for it in range(node.first, last + 1)
+            if kinds[it] in WORDS or kinds[it] == "label"
+        }
     return class_named(names, is_except)
 
 
-# Types in the form in which their meaning is told: ("seq", parts), ("alt", parts), ("*", T), ("+", T),
-# ("?", T), ("name", N), ("elem", class, T), ("text", class); of patterns also ("val", node, T). The
-# empty type is a sequence of no parts, and a sequence in a sequence gives its parts to the outer one.
+# Types in the form in which their meaning is told: ("seq", parts), ("alt", parts), ("*", T), ("+",
+# T), ("?", T), ("name", N), ("elem", class, T), ("text", class); of patterns also ("val", node, T).
+# The empty type is a sequence of no parts, and a sequence in a sequence gives its parts to the
+# outer one.
 EMPTY = ("seq", ())
 ALL = ((), True)
 ANY = ("*", ("alt", (("elem", ALL, ("name", "Any")), ("text", ALL))))
@@ -748,7 +881,9 @@ def definitions(text):
             if name in found or name == "String":
                 raise Malformed(f"the type {name} isn't defined once")
             found[name] = type_of(parsed, node.parts[0])
-            used.update(tokens.spelling(it.first) for it in nodes_of(node.parts[0]) if it.kind == "name")
+            used.update(
+                tokens.spelling(it.first) for it in nodes_of(node.parts[0]) if it.kind == "name"
+            )
     missing_names = used - set(found) - {"String"}
     if missing_names:
         raise Malformed(f"the type {min(missing_names)} is not defined")
@@ -756,8 +891,8 @@ def definitions(text):
 
 
 class Entity:
-    """A type, a function or a variable: where it is defined, where it is used, and in which tokens it
-    can be, None for everywhere."""
+    """A type, a function or a variable: where it is defined, where it is used, and in which tokens
+    it can be, None for everywhere."""
 
     __slots__ = ("space", "role", "name", "definitions", "uses", "node", "scope")
 
@@ -829,7 +964,9 @@ class Names:
                         self.twice.append((node.name, table[word].definitions[0]))
                         self.variable("parameter", node, None)
                     else:
-                        table[word] = self.variable("parameter", node, (function.first, function.last))
+                        table[word] = self.variable(
+                            "parameter", node, (function.first, function.last)
+                        )
         waiting = [(part, (table, None)) for part in parts[1:]]
         if parts:
             self.use_types(parts[0])

@@ -92,15 +92,18 @@ def fail(text, status=USAGE):
 
 
 def parser(about, statuses=()):
-    """What reads a script's words. Its help is the script's own text, without the form of its words,
-    and the statuses that it may have."""
+    """What reads a script's words. Its help is the script's own text, without the form of its
+    words, and the statuses that it may have."""
     first, _, more = about.partition("\n")
     text = f"{first.partition(': tools/')[0]}\n{more}".rstrip()
     lines = [f"  {status:<4} {STATUSES[status]}" for status in statuses]
     found = argparse.ArgumentParser(
-        prog=own_name(), description=text, formatter_class=argparse.RawDescriptionHelpFormatter,
+        prog=own_name(),
+        description=text,
+        formatter_class=argparse.RawDescriptionHelpFormatter,
         epilog="\n".join(["status:", "  0    all is well", *lines]) if lines else None,
-        add_help=False, allow_abbrev=False,
+        add_help=False,
+        allow_abbrev=False,
     )
     found.add_argument("-h", "--help", action="help", help="write this")
     return found
@@ -132,7 +135,7 @@ def decoded(data):
     try:
         return data.decode()
     except UnicodeDecodeError as error:
-        return data[:error.start].decode()
+        return data[: error.start].decode()
 
 
 def read(name):
@@ -158,8 +161,8 @@ def near(word, known, cutoff=0.6, most=3):
 
 
 class Places:
-    """Where a file was written that another tool made, by the map that stands beside it (FILE.map), or
-    by the one that is named."""
+    """Where a file was written that another tool made, by the map that stands beside it (FILE.map),
+    or by the one that is named."""
 
     def __init__(self, made, path=None):
         self.rows = []
@@ -197,10 +200,14 @@ class Places:
             return None
         made, name, source = self.rows[low - 1]
         is_copy = source.startswith("= ")
-        (begin, from_column), (its_line, its_column) = pair(made), pair(source[2 * is_copy:])
+        (begin, from_column), (its_line, its_column) = pair(made), pair(source[2 * is_copy :])
         if not is_copy:
             return name, its_line, its_column
-        return name, its_line + line - begin, its_column + column - from_column if line == begin else column
+        return (
+            name,
+            its_line + line - begin,
+            its_column + column - from_column if line == begin else column,
+        )
 
 
 def pair(place):
@@ -256,8 +263,8 @@ class Source:
 
 
 def shown(name, text, at, message):
-    """A message at a place, with the line and a mark under the place. Of a long line the part around
-    it is shown."""
+    """A message at a place, with the line and a mark under the place. Of a long line the part
+    around it is shown."""
     line, column = place_of(text, at)
     return f"{name}:{line}:{column}: {message}\n{excerpt(text, at)}"
 
@@ -277,8 +284,8 @@ def excerpt(text, at):
 
 
 def deep(main):
-    """Runs a script's main with room for types that nest deep, and ends with its status. What can go
-    wrong outside of it ends with a line and a status of its own."""
+    """Runs a script's main with room for types that nest deep, and ends with its status. What can
+    go wrong outside of it ends with a line and a status of its own."""
     # (what reads the output may have enough of it, as head does)
     signal.signal(signal.SIGPIPE, signal.SIG_DFL)
     for stream in (sys.stdout, sys.stderr):
