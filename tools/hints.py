@@ -164,7 +164,8 @@ def run_over(parsed, fault):
             ):
                 return (
                     f"the comment that begins at {place(tokens, start)} ends at "
-                    f"{place(tokens, end - 2)}, by the first *) in it: write a blank between * and )"
+                    f"{place(tokens, end - 2)}, by the first *) in it: "
+                    "write a blank between * and )"
                 )
             if "(*" in text[start + 2 : end - 1]:
                 return (
