@@ -937,14 +937,14 @@ async function through(bytes, stream) {
   return new Uint8Array(await made.arrayBuffer());
 }
 
-const unpacked = bytes => through(bytes, new DecompressionStream("gzip"));
+const unpacked = bytes => through(bytes, new DecompressionStream("deflate"));
 const bytesOf = text => Uint8Array.from(atob(text), it => it.charCodeAt(0));
 
 const CUT = "This link is cut or changed, so its texts can't be had.";
 
 async function link() {
   const held = {program: theProgram.text, document: theDocument.text, question, ...chosen()};
-  const bytes = await through(coder.encode(JSON.stringify(held)), new CompressionStream("gzip"));
+  const bytes = await through(coder.encode(JSON.stringify(held)), new CompressionStream("deflate"));
   let text = "";
   for (let at = 0; at < bytes.length; at += 8192) {
     text += String.fromCharCode(...bytes.subarray(at, at + 8192));
