@@ -14,10 +14,9 @@ mod written;
 use crate::texts::Texts;
 use crate::written::Written;
 use std::alloc::Global;
+pub use texts::Text;
 use thiserror::Error;
 use xd_command::{Status, xduce};
-
-pub use texts::Text;
 
 /// What the command answers: its exit status, and what it writes.
 #[derive(Drop)]
