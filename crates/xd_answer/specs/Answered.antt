@@ -1,5 +1,4 @@
 -- The texts that the caller holds, as a shelf.
-use Rattle.std.specs.Prelude.{List, ℕ}
 use Rattle.xd_base.specs.MemoryShelf.{Held}
 use Rattle.xd_base.specs.Outside.{HasRisen}
 use Rattle.xd_answer.specs.declared.texts.Text.{Text}
