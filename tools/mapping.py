@@ -257,39 +257,18 @@ class Places:
 # Words of the command line.
 
 
-def fail(text, status=2):
-    print(f"{os.path.basename(sys.argv[0])}: {text}", file=sys.stderr)
-    sys.exit(status)
+def fail(text, status=shared.USAGE):
+    shared.fail(text, status)
 
 
-def usage(form):
-    print(form, file=sys.stderr)
-    sys.exit(2)
+def with_namespaces(words):
+    """The option that gives prefixes of the table."""
+    words.add_argument("--namespace", metavar="PREFIX=NAME", action="append", default=[], help="a prefix of the table; =NAME the empty one")
 
 
-def options(form, words, known):
-    """The options among the words, each with its values, and the other words."""
-    found, rest = {}, []
-    words = iter(words)
-    for word in words:
-        if word == "--":
-            rest += words
-        elif word.startswith("-") and word != "-":
-            name, equals, value = word.partition("=")
-            if name not in known:
-                usage(form)
-            value = value if equals else next(words, None)
-            if value is None:
-                usage(form)
-            found.setdefault(name, []).append(value)
-        else:
-            rest.append(word)
-    return found, rest
-
-
-def named(options):
+def named(given):
     """The lines of the table that the option --namespace gives."""
-    for value in options.get("--namespace", ()):
+    for value in given.namespace:
         prefix, equals, name = value.partition("=")
         if not equals or not re.fullmatch(f"({PREFIX})?", prefix):
             fail(f"--namespace {value}: a prefix is letters and digits, and = stands behind it")
