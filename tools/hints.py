@@ -771,6 +771,8 @@ class Explainer:
             document = self.alone(function, results, result, name, helper)
             if document is not None:
                 told.related.append((self.place(result.first), f"this result may be {document}"))
+                if result.kind == "var":
+                    told.hints += self.other_way(told, result.first, function.parts[-2])
         if told.related:
             told.hints[0] = f"the result's type hasn't it: {self.text_of(function.parts[-2])}"
 
@@ -794,33 +796,31 @@ class Explainer:
         return None
 
     def of_argument(self, told):
-        """Whether an argument that is a variable of a pattern gets what doesn't fit only by a way
-        of the pattern that no run takes, and what to write then."""
+        """Whether an argument that is a variable gets what doesn't fit only by another way."""
         index = self.tokens.index_at(told.start)
-        entity, function = self.names.at.get(index), self.function_at(told.start)
-        if (
-            not entity
-            or entity.role != "variable"
-            or len(entity.definitions) > 1
-            or not self.may_ask()
-        ):
-            return
         wanted = self.parameter_of(index)
-        if not wanted or not self.is_one_way(function, entity, wanted):
-            return
-        node, word = entity.node, entity.name
-        start, end = self.parsed.range(wanted.parts[0])
-        type_ = self.text[start:end]
-        if wanted.parts[0].kind in ("seq", "alt"):
-            type_ = f"({type_})"
-        start, end = self.parsed.range(node)
-        written = f"val {word} as {type_}"
+        if wanted:
+            told.hints = self.other_way(told, index, wanted.parts[0]) or told.hints
+
+    def other_way(self, told, index, type_):
+        """What is said where a variable of a pattern is what doesn't fit a type only by a way of
+        the pattern that no run takes: so, and what to write."""
+        entity, function = self.names.at.get(index), self.function_at(told.start)
+        if not entity or entity.role != "variable" or len(entity.definitions) > 1:
+            return []
+        if not self.may_ask() or not self.is_one_way(function, entity, type_):
+            return []
+        start, end = self.parsed.range(type_)
+        narrow = self.text[start:end]
+        if type_.kind in ("seq", "alt"):
+            narrow = f"({narrow})"
+        start, end = self.parsed.range(entity.node)
+        written = f"val {entity.name} as {narrow}"
         changed = self.text[:start] + written + self.text[end:]
         before, after = (self.ask("check", it)[1].count(": fault ") for it in (self.text, changed))
-        told.hints = ["no run gives it: it comes by another way of the pattern than the first one"]
-        if after < before:
-            told.hints.append(f"write {written}, and that way is gone")
-        told.related.append((self.place(node.name), "the variable is bound here"))
+        told.related.append((self.place(entity.node.name), "the variable is bound here"))
+        found = ["no run gives it: it comes by another way of the pattern than the first one"]
+        return found + [f"write {written}, and that way is gone"] * (after < before)
 
     def parameter_of(self, index):
         """The parameter that the argument which is this one token is for."""
@@ -838,9 +838,9 @@ class Explainer:
                                 return parameters[number] if number < len(parameters) else None
         return None
 
-    def is_one_way(self, function, entity, wanted):
-        """Whether what first ways give a variable fits the parameter's type, as `precise` and
-        `subtype` say of a program in which all else is accepted."""
+    def is_one_way(self, function, entity, type_):
+        """Whether what first ways give a variable fits a type, as `precise` and `subtype` say of a
+        program in which all else is accepted."""
         name, parsed = self.fresh(), self.parsed
         types = "".join(
             self.text[slice(*parsed.range(it))] + "\n"
@@ -880,7 +880,7 @@ class Explainer:
         block = re.search(rf"^{place_}: variable \w+ as (\w+)\n((?:type .*\n)*)", output, re.M)
         if not block:
             return False
-        wanted_type = self.text[slice(*parsed.range(wanted.parts[0]))]
+        wanted_type = self.text[slice(*parsed.range(type_))]
         both = f"{types}{block[2]}type {name} = {wanted_type}\n"
         return self.ask("subtype", both, block[1], name)[0] == 0
 
