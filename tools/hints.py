@@ -556,8 +556,7 @@ class Explainer:
                 yield from (it for it in notation.nodes_of(root) if it.first <= index <= it.last)
 
     def of_names(self, told, number, index):
-        word, kinds, tokens = self.tokens.word(index), self.tokens.kinds, self.tokens
-        names = self.names
+        word, kinds, names = self.tokens.word(index), self.tokens.kinds, self.names
         if number == 4:
             if word in notation.PREDEFINED:
                 told.hints.append("String and Any are defined from the start")

@@ -42,8 +42,6 @@ def load(name):
     return module
 
 
-import notation
-
 # The meaning of types stands there.
 types = load("check-proof")
 
