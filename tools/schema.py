@@ -157,6 +157,8 @@ class Expansion:
     def __init__(self, found, tell):
         self.found, self.tell = dict(found), tell
         self.meaning = Interleaved({"Any": notation.ANY, **found})
+        # Elements that have a name already.
+        self.declared = {body: name for name, body in reversed(list(found.items())) if body[0] == "elem"}
         # Names of what is left, and of items; definitions that aren't told yet; how often a name was wanted.
         self.made, self.more, self.count, self.taken = {}, {}, {}, set()
 
@@ -212,7 +214,7 @@ class Expansion:
         for kind, class_, content, rest in self.meaning.heads(state):
             if stars and rest == state:
                 continue
-            item = (kind, class_) if kind == "text" else self.item((kind, class_, self.plain(content, base)), base)
+            item = (kind, class_) if kind == "text" else self.item((kind, class_, content), base)
             rows.append(joined("seq", (item, self.interleaving(rest, base))))
         if self.meaning.can_be_empty(state):
             rows.append(NOTHING)
@@ -220,6 +222,9 @@ class Expansion:
 
     def item(self, type_, base):
         """An item, by a name where it is long, since it stands in many places."""
+        if type_ in self.declared:
+            return "name", self.declared[type_]
+        type_ = *type_[:2], self.plain(type_[2], base)
         if len(types.text_of(type_)) <= 24:
             return type_
         if type_ not in self.made:
