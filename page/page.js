@@ -140,6 +140,9 @@ class Pane {
 
   get text() { return this.textarea.value; }
 
+  /** All tokens, also of a text that isn't coloured. */
+  get tokens() { return this.found.length ? this.found : tokens(this.text); }
+
   get bytes() { return coder.encode(this.text); }
 
   /** Lets go what was said of another text. */
@@ -224,11 +227,11 @@ class Pane {
 
   /** Puts a place into sight. */
   reveal(begin) {
-    const [line, column] = this.place(begin), lines = this.text.split("\n");
-    const height = this.pre.scrollHeight / lines.length;
-    const width = this.pre.scrollWidth / lines.reduce((most, it) => Math.max(most, it.length), 1);
-    this.editor.scrollTop = Math.max(0, line * height - this.editor.clientHeight / 2);
-    this.editor.scrollLeft = Math.max(0, (column + 8) * width - this.editor.clientWidth);
+    const [line, column] = this.place(begin), isPlain = this.root.classList.contains("plain");
+    const box = isPlain ? this.textarea : this.editor;
+    const height = parseFloat(getComputedStyle(this.textarea).lineHeight);
+    box.scrollTop = Math.max(0, line * height - box.clientHeight / 2);
+    box.scrollLeft = Math.max(0, (column + 8) * this.width() - box.clientWidth);
   }
 
   /** The same, with the caret there. */
@@ -342,6 +345,15 @@ class Pane {
     else this.say(this.kept);
   }
 
+  /** How wide a character is. */
+  width() {
+    const ruler = element("span", {textContent: "m".repeat(100), className: "ruler"});
+    this.editor.append(ruler);
+    const width = ruler.getBoundingClientRect().width / 100;
+    ruler.remove();
+    return width;
+  }
+
   point(event) {
     if (!this.marks.length && !this.tips.size) return;
     const line = this.pre.children[0];
@@ -351,15 +363,8 @@ class Pane {
     const row = Math.floor((event.clientY - box.top - parseFloat(style.paddingTop)) / height);
     const lines = this.text.split("\n");
     if (row < 0 || row >= lines.length) return;
-    this.width ??= (() => {
-      const ruler = element("span", {textContent: "m".repeat(100)});
-      this.pre.append(ruler);
-      const width = ruler.getBoundingClientRect().width / 100;
-      ruler.remove();
-      return width;
-    })();
     const left = box.left + parseFloat(style.paddingLeft);
-    const column = Math.floor((event.clientX - left) / this.width);
+    const column = Math.floor((event.clientX - left) / this.width());
     const begin = lines.slice(0, row).join("\n").length + (row ? 1 : 0);
     const said = column >= 0 && column <= lines[row].length ? this.said(begin + column) : null;
     if (said) this.note.replaceChildren(...said);
@@ -467,7 +472,7 @@ function nearest(word, words) {
 }
 
 /** The words that stand after a keyword. */
-const defined = (pane, keyword) => pane.found
+const defined = (pane, keyword) => pane.tokens
   .filter(it => it.before === keyword && !KEYWORDS.has(it.text)).map(it => it.text);
 
 const UNREACHED = "The clauses before take all that may come here, or none that it takes comes";
@@ -627,12 +632,13 @@ function markDocument(text, message) {
   return mark;
 }
 
-const tokenShown = at => {
-  if (at >= theDocument.text.length) return "the end";
-  const it = theDocument.at(at), next = theDocument.text[it.end];
-  const whole = /^\w+$/.test(it.text) && next === "[" ? `${it.text}[` : it.text;
-  return whole.length > 40 ? `${whole.slice(0, 40)}..` : whole;
-};
+/** What stands at an offset of the document, as far as a line of words has room for it. */
+function tokenShown(at) {
+  const front = theDocument.text.slice(at, at + 200);
+  if (!front) return "the end";
+  const it = /^(?:\w+\[?|"(?:[^"\\]|\\.)*"|[^])/.exec(front)[0];
+  return it.length > 40 ? `${it.slice(0, 40)}..` : it;
+}
 
 /** A line with a button that leads to a mark of the document. */
 const toMark = (mark, place, more) => (
@@ -651,9 +657,9 @@ function malformed(text) {
     with each thing that might. */
 async function mayStand(type, begin, place) {
   const front = theDocument.text.slice(0, begin);
-  const labels = theProgram.found.filter(it => it.kind === "label" && it.text !== "~");
+  const labels = theProgram.tokens.filter(it => it.kind === "label" && it.text !== "~");
   const classes = new Set(labels.map(it => `${it.text}[`));
-  const strings = new Set(theProgram.found.filter(it => it.kind === "string").map(it => it.text));
+  const strings = new Set(theProgram.tokens.filter(it => it.kind === "string").map(it => it.text));
   const words = ["stream", PROGRAM, type, DOCUMENT, "65536"], texts = [[PROGRAM, theProgram.bytes]];
   const other = `other${classes.size}_[`, otherText = `"other ${strings.size}"`;
   const items = [other, ...classes, otherText, ...strings];
