@@ -603,6 +603,7 @@ impl Machine {
         requires { IsStanding self.old }
         ensures ok { OnOk result ((bytes : List ℕ) → StandsBehind self.old bytes → SpellsAccepted (tested self.old.validator) (tested_from self.old.validator) bytes) }
         ensures err { IfErr result (λ e. (bytes : List ℕ) → StandsBehind self.old bytes → Stops self.old bytes e) }
+        ensures same { IsSameFor self.old.validator self.new.validator }
     {
         match self.mode {
             Mode::Between => self.end(),
@@ -613,6 +614,13 @@ impl Machine {
             Mode::Word => Err(StreamError::Malformed(self.begun)),
             Mode::Text(_) | Mode::Comment(_) => Err(self.not_closed()),
         }
+    }
+
+    /// The automaton, for another machine.
+    pub fn release(self) -> Auto
+        ensures { result ≡ tested self.validator }
+    {
+        self.validator.release()
     }
 
     /// Ends the document.

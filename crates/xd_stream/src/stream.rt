@@ -85,12 +85,24 @@ impl Stream {
         ensures err { IfErr result (λ e. (bytes : List ℕ) → StandsFor self bytes → StopsAs (automaton_of self) (start_of self) bytes e) }
         ensures again { (e : StreamError) → self.refusal ≡ Some e → result ≡ Err e }
     {
+        let (ended, _automaton) = self.finish_and_release();
+        ended
+    }
+
+    /// Ends the bytes, as [`Stream::finish`] does, and gives the automaton back for the next stream.
+    pub fn finish_and_release(self) -> (Result<(), StreamError>, Auto)
+        ensures ok { OnOk result.0 ((bytes : List ℕ) → StandsFor self bytes → SpellsAccepted (automaton_of self) (start_of self) bytes) }
+        ensures err { IfErr result.0 (λ e. (bytes : List ℕ) → StandsFor self bytes → StopsAs (automaton_of self) (start_of self) bytes e) }
+        ensures again { (e : StreamError) → self.refusal ≡ Some e → result.0 ≡ Err e }
+        ensures automaton { result.1 ≡ automaton_of self }
+    {
         let Self { machine, refusal } = self;
         if let Some(error) = refusal {
-            return Err(error);
+            return (Err(error), machine.release());
         }
         let mut machine = machine;
-        machine.finish()
+        let ended = machine.finish();
+        (ended, machine.release())
     }
 
     /// One more than the number of elements that the whole tokens leave open.

@@ -98,6 +98,13 @@ impl Validator {
         })
     }
 
+    /// The automaton, for another validator.
+    pub fn release(self) -> Auto
+        ensures { result ≡ tested self }
+    {
+        self.automaton
+    }
+
     /// The number of open elements.
     pub fn open_elements(&self) -> usize
         ensures { result ≡ depth_of self.now }
