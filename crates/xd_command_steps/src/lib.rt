@@ -12,7 +12,7 @@ mod status;
 mod text;
 
 pub use document::{load_bytes, load_document};
-pub use output::{Output, Stop};
+pub use output::{Output, Stop, put_all};
 pub use program::{load_program, sound_program};
 pub use proof::load_proof;
 pub use report::report_lines;

@@ -407,10 +407,11 @@ fn undefined_name(alloc: Global, name: &str) -> Result<Fault, NoMemory>
 }
 
 /// Puts all the bytes into the sink, piece by piece, and says whether it took them.
-fn put_all<S: Sink>(sink: &mut S, bytes: &[u8]) -> bool
+pub fn put_all<S: Sink>(sink: &mut S, bytes: &[u8]) -> bool
     ensures whole { OnTrue result (HasGrown (S.written sink.old) (S.written sink.new) bytes.now) }
     ensures front { OnFalse result ((front : List ℕ) × (rest : List ℕ) × (0 < length rest) × (bytes.now ≡ front ++ rest) × HasGrown (S.written sink.old) (S.written sink.new) front) }
     ensures failed { OnFalse result (HasRisen (S.faults sink.old) (S.faults sink.new)) }
+    ensures never_falls { S.faults sink.old ≤ S.faults sink.new }
 {
     let mut at = 0;
     while at < bytes.len() {
