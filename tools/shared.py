@@ -6,6 +6,7 @@ import signal
 signal.signal(signal.SIGINT, signal.SIG_DFL)
 import argparse
 import difflib
+import functools
 import importlib.machinery
 import importlib.util
 import os
@@ -33,6 +34,7 @@ STATUSES = {
 }
 
 
+@functools.lru_cache(maxsize=None)
 def load(name):
     """A script beside this one, as a module."""
     sys.dont_write_bytecode = True

@@ -1,0 +1,191 @@
+"""What `types`, `precise` and `minus` show of documents, in the author's names: a part that means
+the same as a declared type is told by its name.
+
+What means the same the program says: `check` is asked about functions from the one type to the
+other and back, all of a text at once. Before that only types are left out that differ in what their
+documents may begin with.
+"""
+import functools
+import re
+
+import notation
+import shared
+from notation import EMPTY
+
+VARIABLE = re.compile(r"(\d+):(\d+): variable (\w+) as (.*)")
+# Parts that stay as they are, and the longest program that is asked about.
+PLAIN = (EMPTY, ("name", "Any"), ("text", notation.ALL))
+LONGEST = 1_000_000
+
+
+def blocks(output):
+    """What `types` or `precise` shows: by place the name of a variable's type, and its definitions.
+    """
+    found = {}
+    for block in re.split(r"^(?=\d+:\d+: variable )", output, flags=re.M):
+        first, _, rest = block.partition("\n")
+        match = VARIABLE.fullmatch(first)
+        if match:
+            found[int(match[1]), int(match[2])] = match[4], rest
+    return found
+
+
+def in_names(parsed, name, shown, ask):
+    """A shown type in the names of a program's types.
+
+    The program is given as it was parsed, the type by its name and its definitions as they are
+    shown, and `ask` answers commands about texts, as shared.ask_of_text does. Gives the type as it
+    is written, such as `Part+`, and the definitions that it needs beside the program's, as a text
+    that is mostly empty. Where nothing can be asked, no name is found. The answers are kept, for
+    all programs with the same types.
+    """
+    return named("".join(f"{it}\n" for it in definitions_of(parsed)), name, shown, ask)
+
+
+def definitions_of(parsed):
+    """The definitions of types, as they are written."""
+    for node in parsed.roots:
+        if node.kind == "typedef":
+            yield parsed.text[slice(*parsed.range(node))]
+
+
+@functools.lru_cache(maxsize=4)
+def declared(types):
+    """The declared types by what their documents may begin with, in the order of the text; None
+    where the definitions have faults."""
+    try:
+        found = notation.definitions(types)
+    except notation.Malformed:
+        return None
+    meaning, by_key = beginnings(found), {}
+    for name in found:
+        if name != "Any":
+            by_key.setdefault(key(meaning, ("name", name)), []).append(name)
+    return by_key
+
+
+def beginnings(found):
+    return shared.load("where").Beginnings(found)
+
+
+def key(meaning, type_):
+    """What a type's documents may begin with: whether they may be empty, and the labels and the
+    texts that may come first, each as one class."""
+    classes = {"elem": ((), False), "text": ((), False)}
+    for kind, class_, *_ in meaning.heads(type_):
+        classes[kind] = both(classes[kind], class_)
+    return meaning.can_be_empty(type_), classes["elem"], classes["text"]
+
+
+def both(left, right):
+    """The class of what is in one of two classes."""
+    (some, is_except), (others, is_other) = left, right
+    if is_except and is_other:
+        return notation.class_named(set(some) & set(others), True)
+    if is_except or is_other:
+        out, in_ = (some, others) if is_except else (others, some)
+        return notation.class_named(set(out) - set(in_), True)
+    return notation.class_named(set(some) | set(others), False)
+
+
+@functools.lru_cache(maxsize=1024)
+def named(types, name, shown, ask):
+    """The same of the definitions alone."""
+    known, found = declared(types), notation.definitions(shown)
+    same = same_types(types, shown, candidates(known, found), ask) if known else {}
+    root = same.get(("name", name)) or rewritten(found[name], same)
+    waiting, needed = names_in(root), {}
+    while waiting:
+        other = waiting.pop(0)
+        if other in found and other != "Any" and other not in needed:
+            needed[other] = rewritten(found[other], same)
+            waiting += names_in(needed[other])
+    text_of = shared.types.text_of
+    return text_of(root), "".join(f"type {it} = {text_of(needed[it])}\n" for it in needed)
+
+
+def candidates(known, found):
+    """The parts of shown definitions and the declared types that may mean the same."""
+    meaning, pairs = beginnings(found), {}
+    for name, body in found.items():
+        for part in (("name", name), *parts_of(body)) if name != "Any" else ():
+            if part not in PLAIN and part not in pairs:
+                pairs[part] = known.get(key(meaning, part), ())
+    return [(part, name) for part, names in pairs.items() for name in names]
+
+
+def parts_of(type_):
+    """The parts of a type; of an element with one of several labels also each alone."""
+    waiting = [type_]
+    while waiting:
+        type_ = waiting.pop()
+        yield type_
+        if type_[0] in ("seq", "alt"):
+            waiting += reversed(type_[1])
+        elif type_[0] not in ("name", "text"):
+            waiting.append(type_[-1])
+            yield from singles(type_)
+
+
+def singles(type_):
+    """The elements with one label each that an element with one of several stands for."""
+    if type_[0] == "elem" and len(type_[1][0]) > 1 and not type_[1][1]:
+        return [("elem", ((label,), False), type_[2]) for label in type_[1][0]]
+    return []
+
+
+def same_types(types, shown, pairs, ask):
+    """The name of a declared type by each part that means the same: the first one of the text."""
+    mark = fresh(types + shown)
+    lines = [*types.split("\n"), *shown.split("\n")]
+    numbers = {}
+    for part, _ in pairs:
+        if part not in numbers:
+            numbers[part] = len(numbers)
+            lines.append(f"type {mark}{numbers[part]} = {shared.types.text_of(part)}")
+    first = len(lines) + 1
+    for count, (part, name) in enumerate(pairs):
+        two = f"{mark}{numbers[part]}", name
+        for way, (given, wanted) in enumerate((two, two[::-1])):
+            lines.append(f"fun {mark}{count}_{way} (val x as {given}) : {wanted} = x")
+    text = "\n".join(lines)
+    if not pairs or len(text) > LONGEST:
+        return {}
+    status, output = ask("check", text)
+    wrong = {int(it) for it in re.findall(r"^(\d+):\d+: fault 14: ", output, re.M)}
+    if status not in (0, 1) or len(wrong) < output.count(": fault "):
+        return {}
+    found = {}
+    for count, (part, name) in enumerate(pairs):
+        if not wrong & {first + 2 * count, first + 2 * count + 1}:
+            found.setdefault(part, ("name", name))
+    return found
+
+
+def fresh(text):
+    """What no name of a text begins with."""
+    mark = "same"
+    while re.search(rf"\b{mark}", text):
+        mark += "_"
+    return mark
+
+
+def rewritten(type_, same):
+    """A type in which the parts that mean the same as a declared type are its name."""
+    if type_ in same:
+        return same[type_]
+    kind = type_[0]
+    if kind in ("name", "text"):
+        return type_
+    if kind in ("seq", "alt"):
+        parts = [rewritten(part, same) for part in type_[1]]
+        return notation.joined(kind, dict.fromkeys(parts) if kind == "alt" else parts)
+    alone = singles(type_)
+    if alone and all(it in same for it in alone):
+        return notation.joined("alt", dict.fromkeys(same[it] for it in alone))
+    return (*type_[:-1], rewritten(type_[-1], same))
+
+
+def names_in(type_):
+    """The names in a type, in order."""
+    return [it[1] for it in parts_of(type_) if it[0] == "name"]
