@@ -5,6 +5,7 @@ import time
 
 import notation
 import shared
+import shown
 from shared import near
 
 MOST = 4
@@ -159,19 +160,16 @@ def run_over(parsed, fault):
         ):
             later, next_begin = text.find("*)", at), text.find("(*", at)
             is_trap = re.search(r"[\w)\]]\*\)$", text[start:end])
+            its_place = f"the comment that begins at {place(tokens, start)} ends at "
+            its_place += place(tokens, end - 2)
             if is_trap and (
                 later >= 0 and not 0 <= next_begin < later or "(*" in text[start + 2 : end]
             ):
-                return (
-                    f"the comment that begins at {place(tokens, start)} ends at "
-                    f"{place(tokens, end - 2)}, by the first *) in it: "
-                    "write a blank between * and )"
-                )
+                return f"{its_place}, by the first *) in it: write a blank between * and )"
+            if is_trap and re.search(r"\n\s*(type|fun)\s", text[start:end]):
+                return f"{its_place}, by the *) of a type: it wasn't closed before"
             if "(*" in text[start + 2 : end - 1]:
-                return (
-                    f"the comment that begins at {place(tokens, start)} ends at "
-                    f"{place(tokens, end - 2)}: comments don't nest, or it wasn't closed"
-                )
+                return f"{its_place}: comments don't nest, or it wasn't closed"
     for index in range(fault.token - 1, begin - 1, -1):
         if tokens.kinds[index] == "text" and "\n" in tokens.spelling(index):
             return (
@@ -337,6 +335,11 @@ def of_token(parsed, fault, names):
         if word in names.types and other not in names.types:
             return f"a variable stands before its type: val {other} as {word}"
         return f"a variable has val before it: val {word} as {other}"
+    if kind == "as" and fault.sort == "pattern" and index:
+        is_short = before[0] in ("*", "+", "?") and before[1] == "word"
+        type_ = f"{tokens.spelling(index - 2)}{word}" if is_short else "T"
+        other = tokens.spelling(index + 1) if behind[0] == "word" else "x"
+        return f"a variable stands before its type: val {other} as {type_}"
     if (
         before[0] == "word"
         and before[1] == "val"
@@ -739,45 +742,60 @@ class Explainer:
         return name
 
     @staticmethod
-    def results(node):
-        """The expressions that a body's value is one of."""
-        found, waiting = [], [node]
+    def results(body):
+        """The expressions that a body's value, or a part of it, is one of: those of each match that
+        isn't within an argument, in a list of its own. Without a match it is the body alone."""
+        found, waiting = [], [(body, None)]
         while waiting:
-            node = waiting.pop()
-            if node.kind == "group":
-                waiting.append(node.parts[0])
-            elif node.kind == "match":
-                waiting += [it.parts[1] for it in reversed(node.parts[1:]) if it.kind == "clause"]
-            else:
-                found.append(node)
-        return found
+            node, group = waiting.pop()
+            if node.kind == "match":
+                if group is None:
+                    group = []
+                    found.append(group)
+                clauses = [it for it in node.parts[1:] if it.kind == "clause"]
+                waiting += [(it.parts[1], group) for it in reversed(clauses)]
+            elif node.kind == "group":
+                waiting.append((node.parts[0], group))
+            elif group is not None:
+                group.append(node)
+            elif node.kind in ("elem", "seq"):
+                waiting += [(it, None) for it in reversed(node.parts)]
+        return found or [[body]]
 
     def of_result(self, told):
         """Which clauses give a result that doesn't fit, each with a document."""
         function = self.function_at(told.start)
-        if not function or not self.may_ask():
+        if not function:
             return
-        results = self.results(function.parts[-1])
-        if not 1 < len(results) <= MOST_CLAUSES:
+        wanted, groups = function.parts[-2], self.results(function.parts[-1])
+        told.hints[0] = f"the result's type hasn't it: {self.text_of(wanted)}"
+        if not self.may_ask() or sum(map(len, groups)) > MOST_CLAUSES:
             return
-        name = self.fresh()
-        start, end = self.parsed.range(function.parts[-2])
-        helper = f"\nfun {name} (val x as Any) : {self.text[start:end]} = {name}(())\n"
-        for result in results:
-            if not self.may_ask():
-                told.hints.append("there may be more: that takes longer to find")
-                break
-            document = self.alone(function, results, result, name, helper)
-            if document is not None:
-                told.related.append((self.place(result.first), f"this result may be {document}"))
-                if result.kind == "var":
-                    told.hints += self.other_way(told, result.first, function.parts[-2])
-        if told.related:
-            told.hints[0] = f"the result's type hasn't it: {self.text_of(function.parts[-2])}"
+        for group in groups:
+            for result in group:
+                if not self.may_ask():
+                    told.hints.append("there may be more: that takes longer to find")
+                    return
+                document = self.alone(function, group, result)
+                if document is not None:
+                    if self.place(result.first) != told.start:
+                        what = f"this result may be {document}"
+                        if result is not function.parts[-1] and len(groups) > 1:
+                            what = f"with this clause the result may be {document}"
+                        told.related.append((self.place(result.first), what))
+                    told.hints += self.other_way(told, result, wanted)
+        told.hints = [*dict.fromkeys(told.hints)]
 
-    def alone(self, function, results, kept, name, helper):
-        """A document of a result that doesn't fit, by a program in which the others fit."""
-        pieces, at = [], 0
+    def never(self):
+        """A function's name, and its definition, whose calls have no value: in place of something
+        they leave out its part of what a check finds."""
+        name = self.fresh()
+        types = f"type {name} = {name}[{name}]"
+        return name, f"\nfun {name} (val x as Any) : {name} = {name}(())\n{types}\n"
+
+    def alone(self, function, results, kept):
+        """A document of a result that doesn't fit, by a program in which the others are none."""
+        pieces, at, (name, helper) = [], 0, self.never()
         for node in results:
             if node is not kept:
                 start, end = self.parsed.range(node)
@@ -795,116 +813,146 @@ class Explainer:
         return None
 
     def of_argument(self, told):
-        """Whether an argument that is a variable gets what doesn't fit only by another way."""
-        index = self.tokens.index_at(told.start)
-        wanted = self.parameter_of(index)
-        if wanted:
-            told.hints = self.other_way(told, index, wanted.parts[0]) or told.hints
+        """What the parameter is, and whether an argument is what doesn't fit only by another way of
+        a pattern."""
+        argument, parameter = self.argument_at(self.tokens.index_at(told.start))
+        if parameter:
+            told.hints[0] += f": {self.text_of(parameter.parts[0])}"
+            told.hints = self.other_way(told, argument, parameter.parts[0]) or told.hints
 
-    def other_way(self, told, index, type_):
-        """What is said where a variable of a pattern is what doesn't fit a type only by a way of
-        the pattern that no run takes: so, and what to write."""
-        entity, function = self.names.at.get(index), self.function_at(told.start)
-        if not entity or entity.role != "variable" or len(entity.definitions) > 1:
+    def argument_at(self, index):
+        """The argument that begins at a token, and the parameter that it is for."""
+        for node in self.around(index):
+            if node.kind == "call" and node.name in self.names.at:
+                wanted = [it for it in self.names.at[node.name].node.parts if it.kind == "param"]
+                for part, parameter in zip(node.parts, wanted):
+                    while part.kind == "group":
+                        part = part.parts[0]
+                    if part.first == index:
+                        return part, parameter
+        return None, None
+
+    def other_way(self, told, node, type_):
+        """What is said where an expression is what doesn't fit a type only by ways of patterns that
+        no run takes: so, and what to write."""
+        if any(it.kind == "match" for it in notation.nodes_of(node)) or not self.may_ask():
             return []
-        if not self.may_ask() or not self.is_one_way(function, entity, type_):
+        used = dict.fromkeys(
+            self.names.at[it.first]
+            for it in notation.nodes_of(node)
+            if it.kind == "var" and it.first in self.names.at
+        )
+        found = self.first_ways(told, node, type_, used)
+        if found is None:
             return []
-        start, end = self.parsed.range(type_)
-        narrow = self.text[start:end]
-        if type_.kind in ("seq", "alt"):
-            narrow = f"({narrow})"
-        start, end = self.parsed.range(entity.node)
-        written = f"val {entity.name} as {narrow}"
-        changed = self.text[:start] + written + self.text[end:]
-        before, after = (self.ask("check", it)[1].count(": fault ") for it in (self.text, changed))
-        told.related.append((self.place(entity.node.name), "the variable is bound here"))
-        found = ["no run gives it: it comes by another way of the pattern than the first one"]
-        return found + [f"write {written}, and that way is gone"] * (after < before)
+        said = ["no run gives it: it comes by another way of the pattern than the first one"]
+        wanted = [self.text[slice(*self.parsed.range(type_))]] * (node.kind == "var")
+        for entity, by_first in found.items():
+            if len(entity.definitions) > 1 or len([*self.bound_in(entity.node)]) > 1:
+                continue
+            for narrow in dict.fromkeys([*wanted, by_first]):
+                written = shown.bound(entity.name, narrow)
+                start, end = self.parsed.range(entity.node)
+                if self.is_better(self.text[:start] + written + self.text[end:]):
+                    told.related.append((self.place(entity.node.name), "the variable is bound here"))
+                    return [*said, f"write {written}, and that way is gone"]
+        for entity in found:
+            told.related.append((self.place(entity.node.name), "the variable is bound here"))
+        return said
 
-    def parameter_of(self, index):
-        """The parameter that the argument which is this one token is for."""
-        for root in self.parsed.roots:
-            if root.first <= index <= root.last:
-                for node in notation.nodes_of(root):
-                    if node.kind == "call":
-                        for number, part in enumerate(node.parts):
-                            inner = part
-                            while inner.kind == "group":
-                                inner = inner.parts[0]
-                            if inner.first == inner.last == index:
-                                entity = self.names.at.get(node.name)
-                                parameters = [it for it in entity.node.parts if it.kind == "param"]
-                                return parameters[number] if number < len(parameters) else None
-        return None
+    @staticmethod
+    def bound_in(pattern):
+        return (it for it in notation.nodes_of(pattern) if it.kind == "val")
 
-    def is_one_way(self, function, entity, type_):
-        """Whether what first ways give a variable fits a type, as `precise` and `subtype` say of a
-        program in which all else is accepted."""
-        name, parsed = self.fresh(), self.parsed
-        types = "".join(
-            self.text[slice(*parsed.range(it))] + "\n"
-            for it in parsed.roots
-            if it.kind == "typedef"
+    def is_better(self, changed):
+        """Whether a changed program has fewer faults."""
+        before, after = (self.ask("check", it) for it in (self.text, changed))
+        return after[1].count(": fault ") < before[1].count(": fault ")
+
+    def first_ways(self, told, node, type_, used):
+        """What first ways give those variables of patterns that an expression uses, if with these
+        it fits a type, as `precise` and `check` say of programs in which all else is accepted; else
+        None."""
+        function = self.function_at(told.start)
+        bound = [it for it in used if it.role == "variable"]
+        given = bound and self.precise_of(function, bound)
+        if not given:
+            return None
+        parameters, definitions, found = [], [], {}
+        for number, entity in enumerate(used):
+            if entity in given:
+                name, text = shown.renamed(*given[entity], f"{self.fresh()}{number}_")
+                definitions.append(text)
+                typed, more = shown.in_names(self.parsed, *given[entity], self.ask)
+                if not more:
+                    found[entity] = typed
+            else:
+                name = self.text[slice(*self.parsed.range(entity.node.parts[0]))]
+            parameters.append(f" (val {entity.name} as {name})")
+        wanted, expression = (self.text[slice(*self.parsed.range(it))] for it in (type_, node))
+        others = "".join(self.signature(it) for it in self.roots("fundef"))
+        changed = (
+            f"{shown.definitions_of(self.parsed)}{''.join(definitions)}{others}"
+            f"fun {self.fresh()}{''.join(parameters)} : {wanted} = {expression}\n"
         )
-        others = "".join(
-            self.signature(it, name)
-            for it in parsed.roots
-            if it.kind == "fundef" and it is not function
-        )
-        start, _ = parsed.range(function)
+        return found if self.ask("check", changed)[0] == 0 else None
+
+    def precise_of(self, function, entities):
+        """What first ways give variables of a function's patterns, as shown types, by a program in
+        which all but its matches is left out."""
+        parsed, (name, helper) = self.parsed, self.never()
+        others = "".join(self.signature(it) for it in self.roots("fundef") if it is not function)
+        start, end = parsed.range(function.parts[-1])
+        head = self.text[parsed.range(function)[0] : start]
         body = self.rendered(function.parts[-1], name)
-        head = self.text[start : parsed.range(function.parts[-1])[0]]
-        result = self.text[slice(*parsed.range(function.parts[-2]))]
-        helper = f"fun {name} (val x as Any) : {result} = {name}(())\n"
-        changed = f"{types}{others}{helper}{head.rsplit('=', 1)[0]}= {body}\n"
+        changed = f"{shown.definitions_of(parsed)}{others}{head}{body}{helper}"
         status, output = self.ask("precise", changed)
-        if status:
-            return False
-        own = [
-            it
-            for it in self.names.variables
-            if it.role == "variable" and function.first <= it.definitions[0] <= function.last
-        ]
         again = notation.Parsed(changed)
-        last = again.roots[-1]
-        those = [
-            it
-            for it in notation.Names(again).variables
-            if it.role == "variable" and it.definitions[0] >= last.first
-        ]
-        if len(own) != len(those):
-            return False
-        at = those[own.index(entity)].definitions[0]
-        place_ = "{}:{}".format(*again.tokens.place(again.tokens.starts[at]))
-        block = re.search(rf"^{place_}: variable \w+ as (\w+)\n((?:type .*\n)*)", output, re.M)
-        if not block:
-            return False
-        wanted_type = self.text[slice(*parsed.range(type_))]
-        both = f"{types}{block[2]}type {name} = {wanted_type}\n"
-        return self.ask("subtype", both, block[1], name)[0] == 0
+        last = again.roots[-3]
+        own, those = (
+            [
+                it
+                for it in names.variables
+                if it.role == "variable" and root.first <= it.definitions[0] <= root.last
+            ]
+            for names, root in ((self.names, function), (notation.Names(again), last))
+        )
+        if status or len(own) != len(those):
+            return None
+        blocks, found = shown.blocks(output), {}
+        for entity in entities:
+            at = those[own.index(entity)].definitions[0]
+            found[entity] = blocks.get(again.tokens.place(again.tokens.starts[at]))
+        return found if all(found.values()) else None
 
-    def signature(self, function, name):
+    def roots(self, kind):
+        return [it for it in self.parsed.roots if it.kind == kind]
+
+    def signature(self, function):
         """A function whose body only calls it."""
         head = self.text[self.parsed.range(function)[0] : self.parsed.range(function.parts[-1])[0]]
         arguments = "".join(
             f"({self.tokens.word(it.name)})" for it in function.parts if it.kind == "param"
         )
-        return f"{head.rsplit('=', 1)[0]}= {self.tokens.word(function.name)}{arguments}\n"
+        return f"{head}{self.tokens.word(function.name)}{arguments}\n"
 
-    def rendered(self, node, name):
-        """A body with its matches alone, each of which takes all that comes."""
-        while node.kind == "group":
-            node = node.parts[0]
-        if node.kind != "match":
-            return f"{name}(())"
-        clauses = [
-            f"{self.text[slice(*self.parsed.range(it.parts[0]))]}"
-            f" -> {self.rendered(it.parts[1], name)}"
-            for it in node.parts[1:]
-            if it.kind == "clause"
-        ]
-        scrutinee = self.text[slice(*self.parsed.range(node.parts[0]))]
-        return f"(match {scrutinee} with {' | '.join([*clauses, f'Any -> {name}(())'])})"
+    def rendered(self, body, never):
+        """A body's matches alone, each of which takes all that comes, in place of the body."""
+        waiting, found = [body], [f"{never}(())"]
+        while waiting:
+            node = waiting.pop()
+            if node.kind != "match":
+                waiting += reversed(node.parts)
+                continue
+            scrutinee = self.text[slice(*self.parsed.range(node.parts[0]))]
+            clauses = [
+                f"{self.text[slice(*self.parsed.range(it.parts[0]))]}"
+                f" -> {self.rendered(it.parts[1], never)}"
+                for it in node.parts[1:]
+                if it.kind == "clause"
+            ]
+            found.append(f"(match {scrutinee} with {' | '.join([*clauses, f'Any -> {never}(())'])})")
+        return ", ".join(found)
 
 
 def report(name, text, output, places=None):

@@ -30,6 +30,18 @@ def blocks(output):
     return found
 
 
+def renamed(name, text, mark):
+    """Shown definitions under other names, and the first one's."""
+    names = set(re.findall(r"^type (\w+) = ", text, re.M))
+    tokens = notation.Tokens(text)
+    pieces, at = [], 0
+    for index, kind in enumerate(tokens.kinds):
+        if kind == "word" and tokens.spelling(index) in names:
+            pieces += [text[at : tokens.starts[index]], mark + tokens.spelling(index)]
+            at = tokens.ends[index]
+    return mark + name, "".join([*pieces, text[at:]])
+
+
 def in_names(parsed, name, shown, ask):
     """A shown type in the names of a program's types.
 
@@ -39,14 +51,19 @@ def in_names(parsed, name, shown, ask):
     that is mostly empty. Where nothing can be asked, no name is found. The answers are kept, for
     all programs with the same types.
     """
-    return named("".join(f"{it}\n" for it in definitions_of(parsed)), name, shown, ask)
+    return named(definitions_of(parsed), name, shown, ask)
+
+
+def bound(word, typed):
+    """A variable of a pattern with its type."""
+    is_row = notation.type_text(typed)[0] in ("seq", "alt")
+    return f"val {word} as {f'({typed})' if is_row else typed}"
 
 
 def definitions_of(parsed):
     """The definitions of types, as they are written."""
-    for node in parsed.roots:
-        if node.kind == "typedef":
-            yield parsed.text[slice(*parsed.range(node))]
+    definitions = (it for it in parsed.roots if it.kind == "typedef")
+    return "".join(f"{parsed.text[slice(*parsed.range(it))]}\n" for it in definitions)
 
 
 @functools.lru_cache(maxsize=4)
