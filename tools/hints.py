@@ -251,7 +251,7 @@ def of_broken(parsed, fault):
         return CHARACTERS[here[0]]
     if here[0].isalpha():
         return "labels and names have ASCII letters, digits and _ alone"
-    return f"{here[0]} is no sign of the notation"
+    return f"{visible(here[0])} is no sign of the notation"
 
 
 def of_token(parsed, fault, names):
@@ -971,6 +971,11 @@ def report(name, text, output, places=None):
             print(line)
 
 
+def visible(text):
+    """A text in which signs that can't be seen are told by their numbers."""
+    return "".join(it if it.isprintable() or it in "\t\n\r" else f"U+{ord(it):04X}" for it in text)
+
+
 def of_document(data, text, at):
     """What a slip in a document looks like, at the place where no document goes on; text is data as
     far as it is UTF-8."""
@@ -984,9 +989,9 @@ def of_document(data, text, at):
         ]
     front = text[:2000].lstrip("\ufeff \t\r\n")
     here, before = text[at : at + 40], text[max(at - 100, 0) : at]
-    if here.startswith("\ufeff"):
+    if here.startswith("\ufeff") and not front.startswith("<"):
         return ["the file begins with a byte order mark: save it without"]
-    if here.startswith("<"):
+    if here.lstrip("\ufeff").startswith("<"):
         return [
             "this is XML: tools/xml in makes a document of it"
             if front.startswith("<")
@@ -1009,18 +1014,26 @@ def of_document(data, text, at):
     if why == "open comment":
         return ["the comment that begins here isn't closed"]
     word = re.match(rf"({notation.WORD})(\s*)(.?)", here)
-    if here[:1] == "'":
-        return ["a text has double quotes"]
+    if here[:1] in ("'", "\u201c", "\u201d", "\u00a0"):
+        return [CHARACTERS[here[0]]]
     if here[:1] == ";":
         return ["items have commas between them"]
-    if here[:1] and here[0] in "\u201c\u201d":
-        return ['a text has straight quotes, "']
     if word and word[3] == "[" and word[2]:
         return ["a label is directly followed by its ["]
+    if re.search(r"\(\s*$", before):
+        return ["a document has no parentheses but ()"]
+    if word and word[3].isalpha():
+        return ["labels have ASCII letters, digits and _ alone"]
+    if word and word[3] in ("-", ".", ":") and not word[2]:
+        return ["labels have letters, digits and _ alone"]
     if word and re.search(r'["\]]\s*$', before):
         return ["items have commas between them"] if word[3] == "[" else []
+    if word and word[3] == "(":
+        return [f"an element is written {word[1]}[..]"]
     if word and word[3] != "[":
         return [f'a word alone is no item: a text is written "{word[1]}", an element {word[1]}[]']
+    if re.match(r"&#?\w+;", here):
+        return ["there are no entities: a text has the character itself"]
     if here[:1].isdigit():
         return [f'a text has quotes, a number too: "{re.match("[0-9.]*[0-9]", here)[0]}"']
     if here.startswith(("//", "#", "/*", "--")):
