@@ -17,7 +17,7 @@ returns-in_ok-push_binders-in-Val t c =
     let old : List Binder = c.args.found.now.items in
     let q = c.in-Val.place in
     let rest : List Spot = variable_spots (placed_at rows c.in-Val.part.at) in
-    let b : Binder = record { word = c.in_ok-variable-in-Val.variable; place = q } in
+    let b : Binder = record { variable = c.in_ok-variable-in-Val.variable; place = q } in
     let tree : variable_spots (placed_at rows c.args.id.at) ≡ record { word = c.in-Val.word.now; place = q } ∷ rest = ap variable_spots c.view-node.ensures.node.placed
     ∙ ap (λ (f : FormView PatternId). variable_spots (placed_form (placed_at rows) c.view-node.result.place (view_form (λ (id : PatternId). id.at) f))) c.in-Val.is in
     c.in_ok-push_binders-in-Val.ensures ∙ ap (λ (bs : List Binder). spots_of bs ++ rest) c.in_ok-push-in-Val.ensures.items
