@@ -59,6 +59,12 @@ def in_comment(text):
     return text.replace("\\", "\\\\").replace("*)", "*\\)")
 
 
+def moved(line, column, text):
+    """The place behind a text that begins at a place."""
+    last = text.rfind("\n")
+    return line + text.count("\n"), len(text) - last if last >= 0 else column + len(text)
+
+
 def from_comment(text):
     return re.sub(r"\\(.)", r"\1", text, flags=re.S)
 
