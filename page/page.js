@@ -7,7 +7,9 @@ const DATA = JSON.parse(by("data").textContent);
 const PROGRAM = "program.x", DOCUMENT = "document.xd", PROOF = "proof";
 const LIMITS = {program: 1048576, document: 16777216};
 // Longer texts are not coloured, and longer answers are cut where they are shown.
-const COLOURED = 120000, SHOWN = 100000;
+const COLOURED = 120000, SHOWN = 100000, LISTED = 500;
+// Browsers take addresses of a million characters.
+const ADDRESS = 1000000;
 const PAUSE = 250, WAIT = 700, PROBE = 5000;
 const coder = new TextEncoder();
 const MEGABYTES = `${DATA.memory / 1048576} MB`;
@@ -108,10 +110,13 @@ function spread(text) {
 
 // ---------------------------------------------------------------- The panes
 
+const holdsFiles = event => event.dataTransfer.types.includes("Files");
+
 class Pane {
   constructor(id, name) {
     Object.assign(this, {name, root: by(id), limit: LIMITS[id], lit: "", kept: ""});
     Object.assign(this, {marks: [], tips: new Map(), rows: [], found: [], pairs: new Map()});
+    this.begins = [0];
     for (const it of ["textarea", "pre", ".editor", ".numbers", ".state", ".note"]) {
       this[it.replace(/^\./, "")] = this.root.querySelector(it);
     }
@@ -123,18 +128,15 @@ class Pane {
       this.open(event.target.files[0]);
       event.target.value = "";
     });
+    // (a text that is dragged goes where the browser puts it)
     const over = isOver => event => {
-      event.preventDefault();
-      this.root.classList.toggle("over", isOver);
-      return event;
+      this.root.classList.toggle("over", isOver && holdsFiles(event));
     };
     this.root.addEventListener("dragover", over(true));
     this.root.addEventListener("dragleave", over(false));
     this.root.addEventListener("drop", event => {
       over(false)(event);
-      const file = event.dataTransfer.files[0];
-      if (file) this.open(file);
-      else if (event.dataTransfer.getData("text")) this.set(event.dataTransfer.getData("text"));
+      this.open(event.dataTransfer.files[0]);
     });
   }
 
@@ -200,17 +202,23 @@ class Pane {
 
   /** The offset of a place. Columns count characters, as the program does, not halves of pairs. */
   offset(line, column) {
-    let at = 0;
-    for (; line > 1; line--) at = this.text.indexOf("\n", at) + 1;
-    for (; column > 1; column--) at += this.text.codePointAt(at) > 0xffff ? 2 : 1;
+    const {text} = this;
+    let at = this.begins[line - 1];
+    for (; column > 1; column--) at += text.codePointAt(at) > 0xffff ? 2 : 1;
     return at;
   }
 
   /** The line and the column of an offset. */
   place(at) {
-    const begin = at ? this.text.lastIndexOf("\n", at - 1) + 1 : 0;
-    const line = this.text.slice(0, begin).split("\n").length;
-    return [line, [...this.text.slice(begin, at)].length + 1];
+    let line = 0, more = this.begins.length;
+    while (line + 1 < more) {
+      const middle = (line + more) >> 1;
+      if (this.begins[middle] <= at) line = middle;
+      else more = middle;
+    }
+    const front = this.text.slice(this.begins[line], at);
+    const pairs = front.match(/[\ud800-\udbff][\udc00-\udfff]/g)?.length ?? 0;
+    return [line + 1, front.length - pairs + 1];
   }
 
   /** The token that begins at an offset, or one character. */
@@ -246,7 +254,9 @@ class Pane {
   // ------------------------------------------------ What is drawn under the text
 
   draw() {
-    const text = this.text, isPlain = text.length > COLOURED;
+    const {text} = this, isPlain = text.length > COLOURED;
+    this.begins = [0];
+    for (const {index} of text.matchAll(/\n/g)) this.begins.push(index + 1);
     this.root.classList.toggle("plain", isPlain);
     this.found = isPlain ? [] : tokens(text);
     this.pairs = partners(this.found);
@@ -536,18 +546,21 @@ function shownText(text) {
 
 /** A document of the answer, with a button that makes it the document. */
 function asDocument(text) {
-  const shown = spread(text);
+  const shown = text.length > COLOURED ? text : spread(text);
   return [shownText(shown), button("Make this the document", () => theDocument.set(`${shown}\n`))];
 }
 
 const COLOURS = {fault: "bad", warning: "odd"};
 
 function shownMessages(found) {
-  return element("ul", {}, ...found.map(({place, text, kind, begin, hints}) => element("li", {},
+  const item = ({place, text, kind, begin, hints}) => element("li", {},
     place
       ? button(`${place}: ${text}`, () => theProgram.show(begin), COLOURS[kind])
       : line(text, "bad"),
-    ...hints.map(hint => element("p", {className: "hint"}, sentence(hint))))));
+    ...hints.map(hint => element("p", {className: "hint"}, sentence(hint))));
+  const left = found.length - LISTED;
+  const more = left > 0 ? element("li", {}, `.. and ${counted(left)} more`) : null;
+  return element("ul", {}, ...found.slice(0, LISTED).map(item), more);
 }
 
 /** What a status says that isn't an answer to the question; null for the others. */
@@ -640,6 +653,17 @@ function tokenShown(at) {
   return it.length > 40 ? `${it.slice(0, 40)}..` : it;
 }
 
+/** The elements that are open at an offset of a document that is coloured. */
+function openAt(at) {
+  const open = [];
+  for (const {begin, kind, text} of theDocument.found) {
+    if (begin >= at) break;
+    if (kind === "label") open.push(`${text}[`);
+    else if (text === "]") open.pop();
+  }
+  return (open.length > 12 ? ["..", ...open.slice(-12)] : open).join("");
+}
+
 /** A line with a button that leads to a mark of the document. */
 const toMark = (mark, place, more) => (
   element("p", {className: "first bad"}, button(place, () => theDocument.show(mark.begin)), more)
@@ -708,6 +732,8 @@ async function showStream({status, text}, _, {left}) {
     mark = markDocument(text, at => `${tokenShown(at)} can't stand here`);
     shown = [toMark(mark, place, ` ${mark.text}: no document of ${left} goes on like this.`)];
   }
+  const open = openAt(mark.begin);
+  if (open) shown.push(line(`It is inside ${open}`));
   const more = line("..", "hint");
   mayStand(left, mark.begin, place).then(may => {
     if (!may) { more.textContent = ""; return; }
@@ -918,7 +944,7 @@ function stop() {
 }
 
 function choose(name) {
-  question = QUESTIONS[name] ? name : "check";
+  question = own(QUESTIONS, name) ? name : "check";
   for (const it of document.querySelectorAll("#questions input")) {
     it.checked = it.value === question;
   }
@@ -956,6 +982,11 @@ async function link() {
     text += String.fromCharCode(...bytes.subarray(at, at + 8192));
   }
   const address = btoa(text).replaceAll("+", "-").replaceAll("/", "_").replace(/=+$/, "");
+  if (address.length > ADDRESS) {
+    theProgram.keep(`The texts are too long for a link: packed they have ${counted(address.length)} `
+      + `characters, and an address has at most ${counted(ADDRESS)}.`);
+    return;
+  }
   link.own = `#1.${address}`;
   location.hash = link.own;
   const length = location.href.length;
@@ -1052,8 +1083,9 @@ function lay() {
       inquire();
     }
   });
-  addEventListener("dragover", event => event.preventDefault());
-  addEventListener("drop", event => event.preventDefault());
+  for (const it of ["dragover", "drop"]) {
+    addEventListener(it, event => { if (holdsFiles(event)) event.preventDefault(); });
+  }
   addEventListener("hashchange", async () => {
     if (!await follow() && follow.isCut) theProgram.keep(`${CUT} What stood here stays.`);
     follow.isCut = false;
@@ -1064,14 +1096,12 @@ async function begin() {
   theProgram = new Pane("program", PROGRAM);
   theDocument = new Pane("document", DOCUMENT);
   lay();
-  by("running").textContent = "The program is made ready..";
   let program = null, fault = "";
   try {
     program = await load();
   } catch (it) {
     fault = ` (${it})`;
   }
-  by("running").textContent = "";
   if (program) {
     asker = new Asker(program);
     globalThis.xduce = (words, texts) => asker.answer(words, texts);
