@@ -78,8 +78,8 @@ pub record IsSameBlock (b c : VariableBlock) : Type 0 where
 pub record BlocksAlike (o p : Output) : Type 0 where
   pub status : o.status ≡ 0
   pub other_status : p.status ≡ 0
-  pub blocks : List Block
-  pub others : List Block
+  pub blocks : List VariableBlock
+  pub others : List VariableBlock
   pub same : AllPaired IsSameBlock blocks others
   pub text : o.text ≡ blocks_text blocks
   pub other : p.text ≡ blocks_text others

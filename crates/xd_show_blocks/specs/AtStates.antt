@@ -34,13 +34,13 @@ pub record IsBlockAt (a : Automaton) (taken : List (List ℕ)) (x : BoundVariabl
 
 -- the block of the variable was appended
 pub record AddsBlock (a : Automaton) (taken : List (List ℕ)) (x : BoundVariable) (old new : List ℕ) : Type 0 where
-  pub block : Block
+  pub block : VariableBlock
   pub shows : IsBlockAt a taken x block
   pub grown : new ≡ old ++ block_text block
 
 -- the text has the blocks of these variables, in order
 pub record HasBlocks (a : Automaton) (taken : List (List ℕ)) (xs : List BoundVariable) (text : List ℕ) : Type 0 where
-  pub blocks : List Block
+  pub blocks : List VariableBlock
   pub each : AllZip (IsBlockAt a taken) xs blocks
   pub written : text ≡ flat_map block_text blocks
 

@@ -55,6 +55,6 @@ pub record IsBlockOf (B : Reading) (P : ProgramTree) (v : SeenVariable) (b : Var
 pub record AreBlocks (B : Reading) (P : ProgramTree) (text : List ℕ) : Type 0 where
   pub variables : List SeenVariable
   pub all : AreSeenVariables P variables
-  pub blocks : List Block
+  pub blocks : List VariableBlock
   pub each : AllZip (IsBlockOf B P) variables blocks
   pub written : text ≡ blocks_text blocks
