@@ -23,6 +23,7 @@ ONE_FILE = "a program is one file: put the definitions into it"
 BEGINS = "a definition begins with type or fun"
 LETTERS = "labels and names have letters, digits and _ alone, and a letter or _ first"
 COMMENT = "a comment is written (* .. *)"
+BOUND = "the variable is bound here"
 # Words that have a meaning elsewhere, and none here.
 ELSEWHERE = {
     "let": "there is no let: match E with val x -> F names a value",
@@ -854,10 +855,9 @@ class Explainer:
                 written = shown.bound(entity.name, narrow)
                 start, end = self.parsed.range(entity.node)
                 if self.is_better(self.text[:start] + written + self.text[end:]):
-                    told.related.append((self.place(entity.node.name), "the variable is bound here"))
+                    told.related.append((self.place(entity.node.name), BOUND))
                     return [*said, f"write {written}, and that way is gone"]
-        for entity in found:
-            told.related.append((self.place(entity.node.name), "the variable is bound here"))
+        told.related += [(self.place(entity.node.name), BOUND) for entity in found]
         return said
 
     @staticmethod
@@ -951,7 +951,8 @@ class Explainer:
                 for it in node.parts[1:]
                 if it.kind == "clause"
             ]
-            found.append(f"(match {scrutinee} with {' | '.join([*clauses, f'Any -> {never}(())'])})")
+            clauses.append(f"Any -> {never}(())")
+            found.append(f"(match {scrutinee} with {' | '.join(clauses)})")
         return ", ".join(found)
 
 

@@ -59,7 +59,8 @@ def program():
 
 
 def ask(*words, timeout=None):
-    """The status and the output of the command on these words."""
+    """The status and the output of the command on these words. Where it takes longer than so many
+    seconds, it is ended, and subprocess.TimeoutExpired is raised."""
     named = program()
     try:
         ran = subprocess.run([named, *words], stdout=subprocess.PIPE, timeout=timeout)
@@ -72,13 +73,13 @@ def ask(*words, timeout=None):
     return ran.returncode, ran.stdout.decode(errors="replace")
 
 
-def ask_of_text(command, text, *words):
+def ask_of_text(command, text, *words, timeout=None):
     """The status and the output of a command about a program that stands in no file."""
     with tempfile.TemporaryDirectory() as folder:
         path = f"{folder}/t.x"
         with open(path, "w", encoding="utf-8", newline="") as file:
             file.write(text)
-        return ask(command, path, *words)
+        return ask(command, path, *words, timeout=timeout)
 
 
 def own_name():
