@@ -582,11 +582,17 @@ function refusal({status, text}) {
 
 const ACCEPTED = "Accepted: no match of it fails, and what it writes is of the declared types.";
 
+/** How many faults and warnings there are, in words. */
+function sumOf(found) {
+  const counts = ["fault", "warning"].map(kind => [found.filter(it => it.kind === kind).length, kind]);
+  const some = ([count, kind]) => `${counted(count)} ${kind}${count > 1 ? "s" : ""}`;
+  return counts.filter(([count]) => count).map(some).join(" and ");
+}
+
 function showCheck(_, found) {
-  const isWrong = found.some(it => it.kind === "fault");
-  const wrong = found.length === 1 ? "a fault" : `${found.length} faults or warnings`;
+  const isWrong = found.some(it => it.kind === "fault"), told = `The program has ${sumOf(found)}.`;
   return [
-    line(isWrong ? `The program has ${wrong}.` : ACCEPTED, `first ${isWrong ? "bad" : "good"}`),
+    line(isWrong ? told : ACCEPTED, `first ${isWrong ? "bad" : "good"}`),
     found.length ? shownMessages(found) : null,
   ];
 }
@@ -733,7 +739,7 @@ async function showStream({status, text}, _, {left}) {
     shown = [toMark(mark, place, ` ${mark.text}: no document of ${left} goes on like this.`)];
   }
   const open = openAt(mark.begin);
-  if (open) shown.push(line(`It is inside ${open}`));
+  if (open) shown.push(element("p", {}, "It is inside ", element("code", {}, open)));
   const more = line("..", "hint");
   mayStand(left, mark.begin, place).then(may => {
     if (!may) { more.textContent = ""; return; }
@@ -876,11 +882,10 @@ function answered(parts, words, found) {
 }
 
 /** What stands above the program: how many faults and warnings it has. */
-function tellChecked(checked, faults, warnings) {
-  const some = (count, what) => `${count} ${what}${count > 1 ? "s" : ""}`;
+function tellChecked(checked, found) {
   if (refusal(checked)) theProgram.tell("no answer", "fault");
-  else if (faults) theProgram.tell(some(faults, "fault"), "fault");
-  else if (warnings) theProgram.tell(`accepted, ${some(warnings, "warning")}`, "warning");
+  else if (found.some(it => it.kind === "fault")) theProgram.tell(sumOf(found), "fault");
+  else if (found.length) theProgram.tell(`accepted, ${sumOf(found)}`, "warning");
   else theProgram.tell("accepted", "good");
 }
 
@@ -909,10 +914,9 @@ async function inquire() {
     const checked = await asker.answer(["check", PROGRAM], [[PROGRAM, all[PROGRAM]]]);
     if (isStale() || !checked) return;
     const found = messages(theProgram, checked.text);
-    const faults = found.filter(it => it.kind === "fault").length;
     theProgram.mark(found.filter(it => it.place));
     if (isFresh && theProgram.marks.length) theProgram.reveal(theProgram.marks[0].begin);
-    tellChecked(checked, faults, found.length - faults);
+    tellChecked(checked, found);
     const texts = [PROGRAM, ...its.texts].map(it => [it, all[it]]);
     const answer = question === "check" ? checked : await asker.answer(words, texts);
     if (isStale() || !answer) return;
@@ -924,7 +928,7 @@ async function inquire() {
     answered(parts, words, answer);
     clearInterval(clock);
     running("");
-    if (!faults && question !== "types") await lookAtVariables();
+    if (checked.status === 0 && question !== "types") await lookAtVariables();
     if (!isStale()) theProgram.caret();
   } catch (fault) {
     const told = "The page has a fault of its own, and goes on with the next change.";
