@@ -1,0 +1,4 @@
+pub mod Readings
+pub mod Tellings
+pub mod Runs
+pub mod Words

@@ -1,0 +1,4 @@
+pub mod Reading
+pub mod Ended
+pub mod Answers
+pub mod Outcome
