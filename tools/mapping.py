@@ -16,6 +16,8 @@ import shared
 XML = "http://www.w3.org/XML/1998/namespace"
 BLANKS = " \t\r\n"
 PREFIX = r"[A-Za-z][A-Za-z0-9]*"
+# So many labels are kept of those that a content has.
+MOST_KNOWN = 10_000
 LABEL = re.compile(rf"(__)?(?:({PREFIX})__)?((?:[A-Za-z0-9]|_[1-9a-f][0-9a-f]*_)+)", re.A)
 START = ("A-Z_a-z\xc0-\xd6\xd8-\xf6\xf8-\u02ff\u0370-\u037d\u037f-\u1fff\u200c-\u200d\u2070-\u218f\u2c00-\u2fef\u3001-\ud7ff"
          "\uf900-\ufdcf\ufdf0-\ufffd\U00010000-\U000effff")
@@ -73,7 +75,7 @@ class Table:
     """The prefixes of namespaces. The empty one is the default's: that of names without a namespace, where it has no other."""
 
     def __init__(self, pairs=()):
-        self.names, self.prefixes = {"xml": XML, "": ""}, {XML: "xml", "": ""}
+        self.names, self.prefixes, self.last = {"xml": XML, "": ""}, {XML: "xml", "": ""}, 0
         for prefix, name in pairs:
             self.add(prefix, name)
 
@@ -92,10 +94,10 @@ class Table:
     def prefix_of(self, name):
         """The prefix of a namespace; one that has none gets n1, n2 and so on."""
         if name not in self.prefixes:
-            number = 1
-            while f"n{number}" in self.names:
-                number += 1
-            self.add(f"n{number}", name)
+            self.last += 1
+            while f"n{self.last}" in self.names:
+                self.last += 1
+            self.add(f"n{self.last}", name)
         return self.prefixes[name]
 
     def element(self, name, local):
@@ -161,6 +163,8 @@ class Content:
     def inside(self, label):
         """What is known of the content where an element with this label stands in it, and the content of that element."""
         if label not in self.known:
+            if len(self.known) > MOST_KNOWN:
+                self.known.clear()
             found, having = {}, []
             for type_ in self.types:
                 its = [content for class_, content in self.rules.elements(type_) if shared.types.has(class_, label)]
