@@ -1,5 +1,5 @@
 -- What is told of documents: for each the answer of `stream` to its bytes, behind its name.
-use Rattle.std.specs.Prelude.{◌≡◌, ◌⊎◌, ◌≤◌, ◌<◌, ◌==◌, ◌||◌, ℕ, List, [], ◌∷◌, ◌++◌, Option, codes, cond, length, nat_lt}
+use Rattle.std.specs.Prelude.{◌≡◌, ◌≢◌, ◌⊎◌, ◌≤◌, ◌<◌, ◌==◌, ◌||◌, ℕ, List, [], ◌∷◌, ◌++◌, Option, codes, cond, length, nat_lt}
 use Rattle.xd_base.specs.Outside.{HasGrown, HasRisen, IsLacking}
 use Rattle.xd_doc.specs.Document.{Document}
 use Rattle.xd_stream.specs.declared.error.StreamError.TheVariants as errors
@@ -20,13 +20,21 @@ named name o = record {
 abbrev pub unread : (name : List ℕ) → Output
 unread name = record { status = 3; text = name ++ codes ": cannot be read\n" }
 
+-- the same with more text behind it, as what may stand at a place
+abbrev pub HasMore : Output → Output → Type 0
+HasMore o p = (p.status ≡ o.status) × ((more : List ℕ) × (p.text ≡ o.text ++ more))
+
+-- the answer behind the name; behind another answer than `yes` there may be more
+abbrev pub IsNamed : (name : List ℕ) → (answer told : Output) → Type 0
+IsNamed name answer o = (o ≡ named name answer) ⊎ ((answer.status ≢ 0) × HasMore (named name answer) o)
+
 -- What is told of one document, where the count of faults rose or not: that it can't be read; or
 -- the answer to its bytes. Where the source tells what it holds, these are all bytes of that name.
 abbrev pub IsTold : (In : Document → Type 0) → Holding → (rose : Type 0) → (name : List ℕ) → Output → Type 0
 IsTold In holds rose name o =
     ((rose ⊎ IsLacking holds name) × (o ≡ unread name))
     ⊎ ((bytes : List ℕ) × IsHeld holds name bytes
-    × ((answer : Output) × TellsStop In bytes answer × (o ≡ named name answer)))
+    × ((answer : Output) × TellsStop In bytes answer × IsNamed name answer o))
 
 -- What is told of each, in order. The count of faults goes from one number to the other; for each
 -- document it says by itself whether the count rose.
@@ -77,10 +85,10 @@ EndsAll In holds from till sink_rose before after names code =
     ((code ≡ 5) × HasGrown before after (text_of os))
     ⊎ ((code ≡ 4) × IsCutOff sink_rose before after (text_of os))))
 
--- the line of a document that was read so; running out of memory has none
+-- the lines of a document that was read so; running out of memory has none
 abbrev pub IsLine : (name : List ℕ) → Ended → Output → Type 0
 IsLine name Accepted o = o ≡ named name yes
-IsLine name (Stopped (errors.Malformed p)) o = o ≡ named name (malformed_document p)
-IsLine name (Stopped (errors.Outside p)) o = o ≡ named name (outside_type p)
+IsLine name (Stopped (errors.Malformed p)) o = HasMore (named name (malformed_document p)) o
+IsLine name (Stopped (errors.Outside p)) o = HasMore (named name (outside_type p)) o
 IsLine name (Stopped errors.NoMemory) o = ⊥
 IsLine name Unread o = o ≡ unread name

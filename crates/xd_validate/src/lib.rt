@@ -17,6 +17,7 @@ mod line;
 mod reading;
 mod run;
 mod source;
+mod stand;
 
 use crate::run::run;
 pub use source::{FileSource, Source, Unreadable};

@@ -1,13 +1,14 @@
 //! What is told of a document.
 
-ghost use Rattle.std.specs.Prelude.{◌≡◌, ◌≤◌, ◌<◌, ◌++◌, codes, length, IfOk};
+ghost use Rattle.std.specs.Prelude.{◌≡◌, ◌≤◌, ◌<◌, ◌++◌, codes, length, IfOk, IfSome};
 ghost use Rattle.xd_auto.specs.Automaton.{IsState};
 ghost use Rattle.xd_base.specs.Outside.{HasRisen};
 ghost use Rattle.xd_stream.specs.StopByState.{IsAccepted};
-ghost use Rattle.xd_validate.specs.Answers.{IsLine, IsTold, joined};
+ghost use Rattle.xd_validate.specs.Answers.{HasMore, IsLine, IsTold, joined};
 
 use crate::reading::{Ended, validate_open};
 use crate::source::Source;
+use crate::stand::may_stand;
 use std::alloc::Global;
 use std::marker::Model;
 use xd_auto::{Auto, State};
@@ -47,8 +48,25 @@ impl Line {
         Ok(Line { status, text })
     }
 
-    /// The line of the document of this name that was read so.
-    fn ended(alloc: Global, name: &str, ended: Ended) -> Result<Line, NoMemory>
+    /// The same with one more line, of what may stand there, unless that is nothing.
+    fn with(self, name: &str, may_stand: &[u8]) -> Result<Line, NoMemory>
+        ensures { IfOk result (HasMore self) }
+    {
+        if may_stand.is_empty() {
+            return Ok(self);
+        }
+        let Line { status, text } = self;
+        let mut text = text;
+        text.extend_from_slice(name.as_bytes())?;
+        text.extend_from_slice(b": here may stand:")?;
+        text.extend_from_slice(may_stand)?;
+        text.extend_from_slice(b"\n")?;
+        Ok(Line { status, text })
+    }
+
+    /// The line of the document of this name that was read so, and where it stops what may stand
+    /// there.
+    fn ended(alloc: Global, name: &str, ended: Ended, may_stand: &[u8]) -> Result<Line, NoMemory>
         ensures { IfOk result (IsLine name.now ended) }
     {
         match ended {
@@ -58,11 +76,11 @@ impl Line {
             }
             Ended::Stopped(StreamError::Malformed(place)) => {
                 let answer = Output::malformed_document(alloc, place)?;
-                Line::of(alloc, Status::MALFORMED, name, ":", answer.text())
+                Line::of(alloc, Status::MALFORMED, name, ":", answer.text())?.with(name, may_stand)
             }
             Ended::Stopped(StreamError::Outside(place)) => {
                 let answer = Output::outside_type(alloc, place)?;
-                Line::of(alloc, Status::NO, name, ":", answer.text())
+                Line::of(alloc, Status::NO, name, ":", answer.text())?.with(name, may_stand)
             }
             Ended::Stopped(StreamError::NoMemory) => Err(NoMemory),
             Ended::Unread => Line::of(alloc, Status::UNREAD, name, ": ", b"cannot be read\n"),
@@ -88,12 +106,36 @@ pub fn tell<D: Source>(
     ensures length { length buffer.new ≡ length buffer.old }
 {
     if let Err(_) = source.open(name) {
-        let line = Line::ended(alloc, name, Ended::Unread)?;
+        let line = Line::ended(alloc, name, Ended::Unread, b"")?;
         return Ok((line, auto));
     }
-    let (ended, auto) = validate_open(alloc, auto, state, source, buffer)?;
-    let line = Line::ended(alloc, name, ended)?;
+    let (ended, front, auto) = validate_open(alloc, auto, state, source, buffer)?;
+    let (may_stand, auto) = hint(alloc, auto, state, ended, front, buffer)?;
+    let line = Line::ended(alloc, name, ended, &may_stand)?;
     Ok((line, auto))
+}
+
+/// What may stand where the document stops, if so many bytes at the front of the buffer are all that
+/// were read of it. The automaton is given back.
+fn hint(
+    alloc: Global,
+    auto: Auto,
+    state: State,
+    ended: Ended,
+    front: Option<usize>,
+    buffer: &[u8],
+) -> Result<(Vec<u8>, Auto), NoMemory>
+    requires state { IsState auto state }
+    requires front { IfSome front (λ n. n ≤ length buffer.now) }
+    ensures { IfOk result (λ r. r.1 ≡ auto) }
+{
+    let Some(place) = ended.place() else {
+        return Ok((Vec::new(alloc), auto));
+    };
+    let Some(n) = front else {
+        return Ok((Vec::new(alloc), auto));
+    };
+    may_stand(alloc, auto, state, &buffer[..n], place)
 }
 
 /// The status of both.

@@ -1,10 +1,12 @@
 use Rattle.std.proofs.Common.{ℕ, List, [], ◌++◌, take, refl, ◌∙◌, arith}
+use Rattle.std.proofs.lemmas.Grind.{common_steps}
 use Rattle.xd_stream.specs.Streams.{automaton_of, start_of}
 use Rattle.xd_validate.proofs.Readings.{all-left, all-stops, consumes-nothing, consumes-then, stops-for}
 use Rattle.xd_validate.proofs.reading.feed_rest.Goals as goal
 
 pub pieces-init : goal.pieces-init
 pieces-init g c = record {
+  within = omega arith;
   fed = [];
   stands = c.requires.fresh;
   read = consumes-nothing (g.D.Source.remaining c.args.source.now);
@@ -19,6 +21,7 @@ pieces-preserved g c =
     let i = c.pieces.invariant in
     let piece : List ℕ = take c.in-Ok.n c.read.new.buffer in
     record {
+      within = grind (arith, common_steps);
       fed = i.fed ++ piece;
       stands = c.in_default-feed.ensures.ok i.fed i.stands;
       read = consumes-then (g.D.Source.remaining c.args.source.now) (g.D.Source.remaining c.pieces.source) (g.D.Source.remaining c.read.new.self) i.fed piece i.read c.in-Ok.ensures.given.consumes;
