@@ -17,8 +17,9 @@ use xd_command_steps::{Status, put_all};
 /// How many bytes of a document are asked for at a time.
 const PIECE: usize = 65536;
 
-/// How many bytes of lines are held back before they are written together.
-const HELD: usize = 65536;
+/// How many bytes of lines are held back before they are written together. With a line more they are
+/// still written at once, so that those of several processes don't mix in a pipe.
+const HELD: usize = 2048;
 
 /// Reads each document in order and writes its line. It ends with the status of all.
 pub fn run<D: Source, S: Sink>(
