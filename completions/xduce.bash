@@ -78,7 +78,7 @@ _xduce_script() {
     [[ " $options " == *" $script:$option= "* ]] && place=-1
     ((++place))
     case $script:$place in
-    versions:3 | where:2)
+    validate:2 | versions:3 | where:2)
         _xduce_types "$file" "$word"
         ;;
     *)
@@ -89,4 +89,4 @@ _xduce_script() {
 }
 
 complete -F _xduce xduce ./xduce
-complete -F _xduce_script xduce-check-proof xduce-dtd xduce-expand xduce-explain xduce-format xduce-join xduce-lint xduce-rng xduce-versions xduce-where xduce-xml
+complete -F _xduce_script xduce-check-proof xduce-dtd xduce-expand xduce-explain xduce-format xduce-join xduce-lint xduce-rng xduce-validate xduce-versions xduce-where xduce-xml

@@ -25,7 +25,8 @@ CRATES, DIST = f"{ROOT}/crates", f"{ROOT}/dist"
 OUT = f"{CRATES}/xduce/out"
 LIST = f"{DIST}/programs.txt"
 # Each program that is shipped, and its crate.
-PROGRAMS = {"xduce": "xduce"}
+PROGRAMS = {"xduce": "xduce", "xduce-validate": "xduce_validate"}
+ANEW = ".ci/run or ./xduce prove builds it anew"
 # What makes the program, and what is claimed of it and proves that.
 MAKES, PROVES = ("src",), ("specs", "proofs")
 
@@ -209,3 +210,32 @@ def unpacked(line):
     if hashlib.sha256(data).hexdigest() != line.program:
         raise Unusable(f"{path} is damaged: it isn't the program that dist/programs.txt names")
     return data
+
+
+def not_of_gate(crate, lines):
+    """Why the program that rt ci left in a crate isn't one of this code, or None. (It has no stamp.
+    It is newer than all that it was made of.)"""
+    path = f"{CRATES}/{crate}/out/{crate}"
+    if not os.path.isfile(path):
+        return f"{path} isn't there: .ci/run or ./xduce prove builds it"
+    if not os.path.isfile(f"{path}.by-rattle"):
+        return f"nothing says that {path} is proved: {ANEW}"
+    files = [it for crate in lines for it in files_of(CRATES, crate, MAKES + PROVES)]
+    for it in [f"{ROOT}/crates.txt", *files]:
+        if os.stat(it).st_ctime > os.stat(path).st_mtime:
+            return f"{os.path.relpath(it, ROOT)} is newer than {path}: {ANEW}"
+    return None
+
+
+def program_of(name, machine=platform.machine()):
+    """A program of the code that stands here, and what is said of it: the one that dist/ ships for
+    a machine, else the one that rt ci left. None where there is neither."""
+    crate = PROGRAMS[name]
+    _, lines = crates_below(crate)
+    line = shipped(name, machine)
+    if line and line.code == sum_of(CRATES, lines):
+        return unpacked(line), f"proved with {line.kit}"
+    if machine != platform.machine() or not_of_gate(crate, lines):
+        return None
+    with open(f"{CRATES}/{crate}/out/{crate}", "rb") as file:
+        return file.read(), "proved and built here"
