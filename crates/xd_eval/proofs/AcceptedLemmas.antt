@@ -19,7 +19,7 @@ use Rattle.xd_syntax.specs.Kept.{ProgramTable, ProgramStands, program_tree, func
 use Rattle.xd_syntax.specs.RecursionFaults.{IsSound}
 use Rattle.xd_syntax.specs.SoundTables.{main_parameter, only_parameter}
 use Rattle.xd_syntax.specs.Proper.{IsProperProgram}
-use Rattle.xd_meaning.specs.Meaning.{Done, Stuck, Environment, value_by, body_by, meaning}
+use Rattle.xd_meaning.specs.Meaning.{Done, Stuck, Environment, value_by, body_by, bound as environment_of, meaning}
 use Rattle.xd_syntax.specs.declared.program.Param.{Param}
 use Rattle.xd_syntax.specs.declared.types.TypeId.{TypeId}
 use Rattle.xd_syntax.proofs.PlacedTrees.{unplaced_at}
@@ -28,8 +28,10 @@ use Rattle.xd_laws.specs.Safety.{IsSafe, IsValueOf, Meets}
 use Rattle.xd_eval.specs.Functions.{row_of}
 use Rattle.xd_eval.specs.declared.frame.Control.{Control}
 use Rattle.xd_eval.specs.declared.frame.Ending.{Ending}
-use Rattle.xd_eval.specs.Machine.{IsRunnable, IsEnding, caller, matcher, outcome, environment_in, expression_in, ScopeStands, bound_seqs}
+use Rattle.xd_eval.specs.Machine.{IsRunnable, IsEnding, caller, matcher, outcome, environment_in, expression_in, ScopeStands, bound_values, value_of, world}
 use Rattle.xd_eval.specs.declared.frame.Scope.{Scope}
+use Rattle.xd_eval.specs.declared.joins.Value.{Value}
+use Rattle.xd_eval.proofs.ValueLemmas.{value_of-at, value_of-stands}
 use Rattle.xd_eval.specs.declared.frame.Control.TheVariants.{Evaluate}
 use Rattle.xd_syntax.specs.declared.exprs.ExprId.{ExprId}
 use Rattle.xd_eval.proofs.Outcomes.{then_done}
@@ -128,14 +130,14 @@ value_declared p safe d proper fits n v m e main f =
 
 -- the call of `main` begins with its body
 pub started : (p : ProgramTable) (ds : List Document) (input : Seq) (f : FunctionRow) (id : ExprId) (scope : Scope) → row_of p.functions main_word ≡ Some f → ProgramStands p → IsSound (program_tree p) → id ≡ f.body →
-    scope.bindings.value.items ≡ bound_seqs f.params (input ∷ []) → BelongsTo ds input → IsStart p ds input (Some (Evaluate id scope))
+    scope.bindings.value.items ≡ bound_values f.params (value_of input ∷ []) → BelongsTo ds input → IsStart p ds input (Some (Evaluate id scope))
 started p ds input f id scope found stands sound body bound b =
     let there : IsRunnable p f.body.at = body_below p main_word f stands sound found in (
-      (subst (λ (i : ExprId). IsRunnable p i.at) (sym body) there, subst (ScopeStands ds) (sym bound) (bound_stands ds f.params (input ∷ []) (b, tt))),
-      λ n. then_done (value_by (matcher p) (caller p) n (environment_in ds scope.bindings.value.items) (expression_in p id.at))
-          ∙ ap (λ (i : ExprId). value_by (matcher p) (caller p) n (environment_in ds scope.bindings.value.items) (expression_in p i.at)) body
-          ∙ ap (λ (bs : List (List ℕ × Seq)). value_by (matcher p) (caller p) n (environment_in ds bs) (expression_in p f.body.at)) bound
-          ∙ ap (λ env. value_by (matcher p) (caller p) n env (expression_in p f.body.at)) (bound_environment p.types ds f.params (input ∷ []))
+      (subst (λ (i : ExprId). IsRunnable p i.at) (sym body) there, subst (ScopeStands (world ds [])) (sym bound) (bound_stands (world ds []) f.params (value_of input ∷ []) (value_of-stands (world ds []) input b, tt))),
+      λ n. then_done (value_by (matcher p) (caller p) n (environment_in (world ds []) scope.bindings.value.items) (expression_in p id.at))
+          ∙ ap (λ (i : ExprId). value_by (matcher p) (caller p) n (environment_in (world ds []) scope.bindings.value.items) (expression_in p i.at)) body
+          ∙ ap (λ (bs : List (List ℕ × Value)). value_by (matcher p) (caller p) n (environment_in (world ds []) bs) (expression_in p f.body.at)) bound
+          ∙ ap (λ env. value_by (matcher p) (caller p) n env (expression_in p f.body.at)) (bound_environment p.types (world ds []) f.params (value_of input ∷ []) ∙ ap (λ d. environment_of (map (parameter p.types) f.params) (d ∷ [])) (value_of-at (world ds []) input))
           ∙ sym (row_called p n main_word (document_at ds input ∷ []) ∙ ap (λ o. body_by (value_by (matcher p) (caller p) n) (option_map (function_definition p) o) (document_at ds input ∷ [])) found),
     )
 
@@ -144,10 +146,10 @@ pub called_more : (p : ProgramTable) (n : ℕ) (ds : List Document) → 1 ≤ n 
 called_more p n ds l = let e : suc (n - 1) ≡ n = omega arith in ap (λ k. caller p k main_word ds) e
 
 pub ran : (p q : ProgramTable) → q ≡ p → IsProperProgram (program_tree p) → BindingsAgree → (n : ℕ) → 1 ≤ n → (ds new : List Document) (input : Seq) (o : Option Control) (start : Control) (e : Ending) →
-    IsStart q ds input o → o ≡ Some start → IsEnding new (outcome q ds [] start (n - 1)) e → IsEnding new (meaning (program_tree p) n (document_at ds input)) e
+    IsStart q ds input o → o ≡ Some start → IsEnding new (outcome q (world ds []) [] start (n - 1)) e → IsEnding new (meaning (program_tree p) n (document_at ds input)) e
 ran p q same proper agree n l ds new input o start e s k h =
     let t : IsStart p ds input (Some start) = subst (λ (r : ProgramTable). IsStart r ds input (Some start)) same (subst (IsStart q ds input) k s) in
-    let u : IsEnding new (outcome p ds [] start (n - 1)) e = subst (λ (r : ProgramTable). IsEnding new (outcome r ds [] start (n - 1)) e) same h in
+    let u : IsEnding new (outcome p (world ds []) [] start (n - 1)) e = subst (λ (r : ProgramTable). IsEnding new (outcome r (world ds []) [] start (n - 1)) e) same h in
     subst (λ x. IsEnding new x e) (t.1 (n - 1) ∙ called_more p n (document_at ds input ∷ []) l ∙ sym (meaning_called p proper agree n (document_at ds input))) u
 
 pub left_within : (p : ProgramTable) → IsProperProgram (program_tree p) → BindingsAgree → (n : ℕ) (d v : Document) (m : ℕ) → meaning (program_tree p) n d ≡ Done v m → m ≤ n

@@ -1,3 +1,5 @@
+pub mod ValueLemmas
+pub mod ReadLemmas
 pub mod Outcomes
 pub mod OutcomeLemmas
 pub mod Calls

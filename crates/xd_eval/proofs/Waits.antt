@@ -1,12 +1,9 @@
--- What waits, in a store that grows and on a stack that grows.
+-- What waits, in a world that grows and on a stack that grows.
 use Rattle.std.proofs.Common.{◌≡◌, ℕ, List, [], ◌∷◌, ◌++◌, map, reverse, refl, ap, ◌∙◌}
 use Rattle.std.specs.List.{AllByRecursion}
 use Rattle.std.proofs.lemmas.List.{reverse-append, map-append}
-use Rattle.xd_doc.specs.Document.{Document}
-use Rattle.xd_doc.specs.Stored.{document_at}
-use Rattle.xd_doc.specs.StoredSeq.{BelongsTo}
-use Rattle.xd_doc.specs.StoreNodes.{Keeps}
-use Rattle.xd_doc.specs.declared.store.Seq.{Seq}
+use Rattle.xd_eval.specs.Values.{World, value_at, Stands, KeepsValues}
+use Rattle.xd_eval.specs.declared.joins.Value.{Value}
 use Rattle.xd_doc.proofs.Lists.{all_more}
 use Rattle.xd_syntax.specs.ExpressionTable.{shape_at}
 use Rattle.xd_syntax.specs.Kept.{ProgramTable}
@@ -15,15 +12,15 @@ use Rattle.xd_eval.specs.Machine.{environment_in, function_named, clauses_in, cl
 use Rattle.xd_eval.specs.declared.frame.Frame.{Frame}
 use Rattle.xd_eval.specs.declared.frame.Frame.TheVariants.{Element, Sequence, Call, Match}
 
-module _ (old new : List Document) (k : Keeps old new) where
-  pub environment_kept : (bs : List (List ℕ × Seq)) → ScopeStands old bs → environment_in new bs ≡ environment_in old bs
+module _ (old new : World) (k : KeepsValues old new) where
+  pub environment_kept : (bs : List (List ℕ × Value)) → ScopeStands old bs → environment_in new bs ≡ environment_in old bs
   environment_kept [] s = refl
   environment_kept (b ∷ bs) s = let e = k.same b.1 s.0 in let r = environment_kept bs s.1 in cc
 
-  pub scope_kept : (bs : List (List ℕ × Seq)) → ScopeStands old bs → ScopeStands new bs
-  scope_kept bs s = all_more (λ (b : List ℕ × Seq). BelongsTo old b.1) (λ (b : List ℕ × Seq). BelongsTo new b.1) bs (λ b h. k.belongs b.1 h) s
+  pub scope_kept : (bs : List (List ℕ × Value)) → ScopeStands old bs → ScopeStands new bs
+  scope_kept bs s = all_more (λ (b : List ℕ × Value). Stands old b.1) (λ (b : List ℕ × Value). Stands new b.1) bs (λ b h. k.stands b.1 h) s
 
-  pub documents_kept : (seqs : List Seq) → AllByRecursion (BelongsTo old) seqs → map (document_at new) seqs ≡ map (document_at old) seqs
+  pub documents_kept : (values : List Value) → AllByRecursion (Stands old) values → map (value_at new) values ≡ map (value_at old) values
   documents_kept [] s = refl
   documents_kept (e ∷ es) s = let h = k.same e s.0 in let r = documents_kept es s.1 in cc
 
@@ -46,7 +43,7 @@ module _ (old new : List Document) (k : Keeps old new) where
     record {
       there = s.1.there;
       waits = s.1.waits;
-      values_there = all_more (BelongsTo old) (BelongsTo new) parts.values.items (λ e h. k.belongs e h) s.1.values_there;
+      values_there = all_more (Stands old) (Stands new) parts.values.items (λ e h. k.stands e h) s.1.values_there;
       scope_stands = scope_kept parts.scope.bindings.value.items s.1.scope_stands;
     },
   )
@@ -55,7 +52,7 @@ module _ (old new : List Document) (k : Keeps old new) where
     record {
       there = s.1.there;
       waits = s.1.waits;
-      values_there = all_more (BelongsTo old) (BelongsTo new) parts.values.items (λ e h. k.belongs e h) s.1.values_there;
+      values_there = all_more (Stands old) (Stands new) parts.values.items (λ e h. k.stands e h) s.1.values_there;
       scope_stands = scope_kept parts.scope.bindings.value.items s.1.scope_stands;
     },
   )
@@ -72,6 +69,6 @@ module _ (old new : List Document) (k : Keeps old new) where
   frames_kept p fs s = all_more (FrameStands p old) (FrameStands p new) fs (λ f h. frame_kept p f h) s
 
 -- one more frame
-pub waiting_more : (p : ProgramTable) (ds : List Document) (fs : List Frame) (f : Frame) → all_waiting p ds (fs ++ f ∷ []) ≡ waiting_of p ds f ∷ all_waiting p ds fs
-waiting_more p ds fs f =
-    ap reverse (map-append (waiting_of p ds) fs (f ∷ [])) ∙ reverse-append (map (waiting_of p ds) fs) (waiting_of p ds f ∷ [])
+pub waiting_more : (p : ProgramTable) (here : World) (fs : List Frame) (f : Frame) → all_waiting p here (fs ++ f ∷ []) ≡ waiting_of p here f ∷ all_waiting p here fs
+waiting_more p here fs f =
+    ap reverse (map-append (waiting_of p here) fs (f ∷ [])) ∙ reverse-append (map (waiting_of p here) fs) (waiting_of p here f ∷ [])

@@ -1,4 +1,5 @@
 pub mod Waiting
+pub mod Values
 pub mod Functions
 pub mod Matches
 pub mod Machine

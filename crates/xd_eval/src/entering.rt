@@ -1,15 +1,15 @@
 //! The first step of an expression.
 
-ghost use Rattle.std.specs.Prelude.{◌≡◌, ◌<◌, ◌≤◌, ℕ, [], length, slice_index_or, IfOk};
+ghost use Rattle.std.specs.Prelude.{◌≡◌, ◌<◌, ◌≤◌, ℕ, [], length, slice_index_or, IfOk, OnOk};
 ghost use Rattle.std.specs.Option.{option_copied};
-ghost use Rattle.xd_doc.specs.Stored.{document_at};
-ghost use Rattle.xd_doc.specs.StoredSeq.{BelongsTo};
 ghost use Rattle.xd_doc.specs.StoreNodes.{Keeps};
 ghost use Rattle.xd_syntax.specs.ExpressionTable.{shape_at, empty_shape, text_shape, var_shape, elem_shape, match_shape};
 ghost use Rattle.xd_syntax.specs.Exprs.{expr_numbers, shape_of};
 ghost use Rattle.xd_eval.specs.Machine.{FramesStand, IsRunnable, IsStep, IsSequence, IsCall, ScopeStands, environment_in, function_named, parts_of, found_in, given, IsShapeAt};
+ghost use Rattle.xd_eval.specs.Values.{JoinsStand, world};
 
-use crate::frame::{Control, Frame, Parts, Scope, Step};
+use crate::frame::{Control, Frame, Machine, Parts, Scope, Step};
+use crate::joins::Value;
 use std::alloc::Global;
 use xd_doc::{Label, NoMemory, Seq, Store, Text};
 use xd_sound::SoundProgram;
@@ -20,39 +20,45 @@ pub(crate) fn enter(
     alloc: Global,
     sound: &SoundProgram,
     store: &mut Store,
-    frames: &mut Vec<Frame>,
+    machine: &mut Machine,
     id: ExprId,
     scope: Scope,
 ) -> Result<Step, NoMemory>
     requires id { IsRunnable sound.now id.at }
-    requires scope { ScopeStands store.old scope.bindings.value.items }
-    requires frames { FramesStand sound.now store.old frames.old.items }
-    ensures step { IfOk result (λ step. (n : ℕ) → IsStep sound.now store.old frames.old.items (Control.Evaluate id scope) n store.new frames.new.items n step) }
+    requires joins { JoinsStand store.old machine.old.joins.items }
+    requires scope { ScopeStands (world store.old machine.old.joins.items) scope.bindings.value.items }
+    requires frames { FramesStand sound.now (world store.old machine.old.joins.items) machine.old.frames.items }
+    ensures step { IfOk result (λ step. IsStep sound.now (world store.old machine.old.joins.items) machine.old.frames.items (Control.Evaluate id scope) machine.old.left (world store.new machine.new.joins.items) machine.new.frames.items machine.new.left step) }
+    ensures joins { OnOk result (JoinsStand store.new machine.new.joins.items) }
     ensures keeps { Keeps store.old store.new }
 {
     match form_of(sound, id) {
-        ExprForm::Empty => Ok(Step::Next(Control::Give(Seq::empty()))),
+        ExprForm::Empty => Ok(Step::Next(Control::Give(Value::Empty))),
         ExprForm::Text(text) => {
             let seq = store.text_node(text.share()?, Seq::empty())?;
-            Ok(Step::Next(Control::Give(seq)))
+            Ok(Step::Next(Control::Give(Value::of(seq))))
         }
         ExprForm::Var(name) => Ok(give(looked_up(scope.bindings(), name))),
         ExprForm::Elem(label, content) => {
-            frames.push(Frame::Element(label.share()?))?;
+            machine.frames.push(Frame::Element(label.share()?))?;
             Ok(Step::Next(Control::Evaluate(*content, scope)))
         }
         ExprForm::Seq(parts) => {
             let first = part_at(parts, 0);
-            frames.push(Frame::Sequence(no_values(alloc, id, &scope)?))?;
+            machine
+                .frames
+                .push(Frame::Sequence(no_values(alloc, id, &scope)?))?;
             Ok(Step::Next(Control::Evaluate(first, scope)))
         }
         ExprForm::Call(_, arguments) => {
             let first = part_at(arguments, 0);
-            frames.push(Frame::Call(no_values(alloc, id, &scope)?))?;
+            machine
+                .frames
+                .push(Frame::Call(no_values(alloc, id, &scope)?))?;
             Ok(Step::Next(Control::Evaluate(first, scope)))
         }
         ExprForm::Match(scrutinee, _) => {
-            frames.push(Frame::Match(id, scope.share()?))?;
+            machine.frames.push(Frame::Match(id, scope.share()?))?;
             Ok(Step::Next(Control::Evaluate(*scrutinee, scope)))
         }
     }
@@ -88,22 +94,22 @@ fn no_values(alloc: Global, expr: ExprId, scope: &Scope) -> Result<Parts, NoMemo
 }
 
 /// What the newest variable of this name has.
-fn looked_up(scope: &[(Label, Seq)], name: &Label) -> Option<Seq>
+fn looked_up(scope: &[(Label, Value)], name: &Label) -> Option<Value>
     ensures { result ≡ found_in scope.now name.now }
 {
-    for (variable, seq) in scope {
+    for (variable, value) in scope {
         if variable.as_str() == name.as_str() {
-            return Some(*seq);
+            return Some(*value);
         }
     }
     None
 }
 
-fn give(found: Option<Seq>) -> Step
+fn give(found: Option<Value>) -> Step
     ensures { result ≡ given found }
 {
     match found {
-        Some(seq) => Step::Next(Control::Give(seq)),
+        Some(value) => Step::Next(Control::Give(value)),
         None => Step::Stuck,
     }
 }

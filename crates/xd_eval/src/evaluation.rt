@@ -11,6 +11,7 @@ ghost use Rattle.xd_eval.specs.Functions.{AreFunctionNames};
 
 use crate::frame::{Control, Ending, Scope};
 use crate::functions::{FunctionNames, NamedProgram};
+use crate::joins::Value;
 use crate::machine::run;
 use crate::matching::Matching;
 use crate::resuming::bind;
@@ -110,7 +111,7 @@ fn start_of(
     let Some(function) = program.names.find(functions, &main) else {
         return Ok(None);
     };
-    let bound = bind(alloc, function.params(), &[input])?;
+    let bound = bind(alloc, function.params(), &[Value::of(input)])?;
     let scope = Scope::new(alloc, bound)?;
     Ok(Some(Control::Evaluate(function.body(), scope)))
 }

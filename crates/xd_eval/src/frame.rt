@@ -2,15 +2,16 @@
 
 ghost use Rattle.std.specs.Prelude.{◌≡◌, IfOk};
 
+use crate::joins::{Join, Value};
 use std::alloc::Global;
 use std::rc::Rc;
 use xd_doc::{Label, NoMemory, Seq};
 use xd_syntax::ExprId;
 
-/// Variables and their documents, the newest first. Those that wait share it.
+/// Variables and their values, the newest first. Those that wait share it.
 #[derive(Drop)]
 pub(crate) struct Scope {
-    bindings: Rc<Vec<(Label, Seq)>>,
+    bindings: Rc<Vec<(Label, Value)>>,
 }
 
 /// The values of the first parts of a sequence or a call, and the variables for those that are
@@ -18,7 +19,7 @@ pub(crate) struct Scope {
 #[derive(Drop)]
 pub(crate) struct Parts {
     pub expr: ExprId,
-    pub values: Vec<Seq>,
+    pub values: Vec<Value>,
     pub scope: Scope,
 }
 
@@ -31,18 +32,20 @@ pub(crate) enum Frame {
     Match(ExprId, Scope),
 }
 
-/// What waits for values, the innermost last, and how many calls are left.
+/// What waits for values, the innermost last, how many calls are left, and what is joined where it
+/// is read.
 #[derive(Drop)]
 pub(crate) struct Machine {
     pub frames: Vec<Frame>,
     pub left: u64,
+    pub joins: Vec<Join>,
 }
 
 /// What is done next.
 #[derive(Drop)]
 pub(crate) enum Control {
     Evaluate(ExprId, Scope),
-    Give(Seq),
+    Give(Value),
 }
 
 /// What a step leads to.
@@ -50,7 +53,7 @@ pub(crate) enum Control {
 pub(crate) enum Step {
     Next(Control),
     /// Nothing waits for the value.
-    Ended(Seq),
+    Ended(Value),
     Spent,
     Stuck,
 }
@@ -64,7 +67,7 @@ pub(crate) enum Ending {
 }
 
 impl Scope {
-    pub(crate) fn new(alloc: Global, bindings: Vec<(Label, Seq)>) -> Result<Self, NoMemory>
+    pub(crate) fn new(alloc: Global, bindings: Vec<(Label, Value)>) -> Result<Self, NoMemory>
         ensures { IfOk result (λ scope. scope.bindings.value.items ≡ bindings.items) }
     {
         let bindings = Rc::new(alloc, bindings)?;
@@ -78,8 +81,8 @@ impl Scope {
         Ok(Self { bindings })
     }
 
-    /// The variables and their documents, the newest first.
-    pub(crate) fn bindings(&self) -> &[(Label, Seq)]
+    /// The variables and their values, the newest first.
+    pub(crate) fn bindings(&self) -> &[(Label, Value)]
         ensures { result.now ≡ self.now.bindings.value.items }
     {
         self.bindings.as_ref().as_slice()

@@ -5,6 +5,7 @@ mod entering;
 mod evaluation;
 mod frame;
 mod functions;
+mod joins;
 mod machine;
 mod matching;
 mod resuming;

@@ -1,13 +1,15 @@
 //! The evaluation of an expression, step by step.
 
-ghost use Rattle.std.specs.Prelude.{[], IfOk};
+ghost use Rattle.std.specs.Prelude.{[], IfOk, OnOk};
 ghost use Rattle.xd_doc.specs.StoreNodes.{Keeps};
 ghost use Rattle.xd_eval.specs.Functions.{AreFunctionNames};
 ghost use Rattle.xd_eval.specs.Machine.{ControlStands, FramesStand, IsEnding, IsStep, outcome};
+ghost use Rattle.xd_eval.specs.Values.{JoinsStand, world};
 
 use crate::entering::enter;
 use crate::frame::{Control, Ending, Machine, Step};
 use crate::functions::NamedProgram;
+use crate::joins::read;
 use crate::matching::Matching;
 use crate::resuming::resume;
 use std::alloc::Global;
@@ -24,20 +26,25 @@ pub(crate) fn run<M: Matching>(
 ) -> Result<Ending, NoMemory>
     requires names { AreFunctionNames program.names.now program.sound.now.functions }
     requires serves { M.serves matching.old program.sound.now store.old }
-    requires start { ControlStands program.sound.now store.old start }
-    ensures ending { IfOk result (IsEnding store.new (outcome program.entry.sound.now store.old [] start calls)) }
+    requires start { ControlStands program.sound.now (world store.old []) start }
+    ensures ending { IfOk result (IsEnding store.new (outcome program.entry.sound.now (world store.old []) [] start calls)) }
     ensures serves { M.serves matching.new program.entry.sound.now store.new }
     ensures keeps { Keeps store.old store.new }
 {
     let mut machine = Machine {
         frames: Vec::new(alloc),
         left: calls,
+        joins: Vec::new(alloc),
     };
     let mut control = start;
     'steps: loop {
         match advance(alloc, program, matching, store, &mut machine, control)? {
             Step::Next(next) => control = next,
-            Step::Ended(seq) => return Ok(Ending::Value(seq, machine.left)),
+            Step::Ended(value) => {
+                matching.stays_serving();
+                let seq = read(alloc, &mut machine.joins, store, value)?;
+                return Ok(Ending::Value(seq, machine.left));
+            }
             Step::Spent => return Ok(Ending::Spent),
             Step::Stuck => return Ok(Ending::Stuck),
         }
@@ -55,22 +62,24 @@ fn advance<M: Matching>(
 ) -> Result<Step, NoMemory>
     requires names { AreFunctionNames program.names.now program.sound.now.functions }
     requires serves { M.serves matching.old program.sound.now store.old }
-    requires frames { FramesStand program.sound.now store.old machine.old.frames.items }
-    requires control { ControlStands program.sound.now store.old control }
-    ensures step { IfOk result (λ step. IsStep program.entry.sound.now store.old machine.old.frames.items control machine.old.left store.new machine.new.frames.items machine.new.left step) }
+    requires joins { JoinsStand store.old machine.old.joins.items }
+    requires frames { FramesStand program.sound.now (world store.old machine.old.joins.items) machine.old.frames.items }
+    requires control { ControlStands program.sound.now (world store.old machine.old.joins.items) control }
+    ensures step { IfOk result (λ step. IsStep program.entry.sound.now (world store.old machine.old.joins.items) machine.old.frames.items control machine.old.left (world store.new machine.new.joins.items) machine.new.frames.items machine.new.left step) }
+    ensures joins { OnOk result (JoinsStand store.new machine.new.joins.items) }
     ensures serves { M.serves matching.new program.entry.sound.now store.new }
     ensures keeps { Keeps store.old store.new }
 {
     matching.stays_serving();
     match control {
         Control::Evaluate(id, scope) => {
-            let step = enter(alloc, program.sound, store, &mut machine.frames, id, scope)?;
+            let step = enter(alloc, program.sound, store, machine, id, scope)?;
             Ok(step)
         }
-        Control::Give(seq) => match machine.frames.pop() {
-            None => Ok(Step::Ended(seq)),
+        Control::Give(value) => match machine.frames.pop() {
+            None => Ok(Step::Ended(value)),
             Some(frame) => {
-                let step = resume(alloc, program, matching, store, machine, frame, seq)?;
+                let step = resume(alloc, program, matching, store, machine, frame, value)?;
                 Ok(step)
             }
         },

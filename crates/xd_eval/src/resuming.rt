@@ -1,6 +1,6 @@
 //! What a value leads to.
 
-ghost use Rattle.std.specs.Prelude.{◌≡◌, ◌<◌, ◌≤◌, ◌∷◌, ◌++◌, [], ℕ, map, length, IfOk, MatchOption, OnOk};
+ghost use Rattle.std.specs.Prelude.{◌≡◌, ◌<◌, ◌≤◌, ◌∷◌, ◌++◌, [], ℕ, List, map, length, IfOk, MatchOption, OnOk};
 ghost use Rattle.std.specs.List.{AllByRecursion};
 ghost use Rattle.std.specs.Option.{IfSome, option_copied};
 ghost use Rattle.xd_doc.specs.Stored.{document_at};
@@ -9,11 +9,14 @@ ghost use Rattle.xd_doc.specs.StoreNodes.{Keeps};
 ghost use Rattle.xd_syntax.specs.ExpressionTable.{shape_at};
 ghost use Rattle.xd_syntax.specs.Exprs.{expr_numbers, clause_numbers};
 ghost use Rattle.xd_eval.specs.Functions.{AreFunctionNames, row_of};
-ghost use Rattle.xd_eval.specs.Machine.{ClausesStand, HasNoneLeft, HasOneMore, IsAwaited, IsCall, IsChosen, IsNextPart, IsRunnable, IsStep, ScopeStands, bound_seqs, clause_numbers_of, function_named, parts_of};
+ghost use Rattle.xd_eval.specs.Machine.{ClausesStand, HasNoneLeft, HasOneMore, IsAwaited, IsCall, IsChosen, IsNextPart, IsRunnable, IsStep, ScopeStands, as_values, bound_values, clause_numbers_of, function_named, parts_of};
+ghost use Rattle.xd_eval.specs.Values.{JoinsStand, world};
+ghost use Rattle.xd_eval.specs.declared.joins.Join.{Join};
 
 use crate::entering::{form_of, part_at};
 use crate::frame::{Control, Frame, Machine, Parts, Scope, Step};
 use crate::functions::NamedProgram;
+use crate::joins::{Value, all_joined, read};
 use crate::matching::Matching;
 use std::alloc::Global;
 use xd_doc::{Label, NoMemory, Seq, Store};
@@ -28,26 +31,28 @@ pub(crate) fn resume<M: Matching>(
     store: &mut Store,
     machine: &mut Machine,
     frame: Frame,
-    seq: Seq,
+    value: Value,
 ) -> Result<Step, NoMemory>
     requires names { AreFunctionNames program.names.now program.sound.now.functions }
     requires serves { M.serves matching.old program.sound.now store.old }
-    requires awaited { IsAwaited program.sound.now store.old machine.old.frames.items frame seq }
-    ensures step { IfOk result (λ step. IsStep program.entry.sound.now store.old (machine.old.frames.items ++ frame ∷ []) (Control.Give seq) machine.old.left store.new machine.new.frames.items machine.new.left step) }
+    requires joins { JoinsStand store.old machine.old.joins.items }
+    requires awaited { IsAwaited program.sound.now (world store.old machine.old.joins.items) machine.old.frames.items frame value }
+    ensures step { IfOk result (λ step. IsStep program.entry.sound.now (world store.old machine.old.joins.items) (machine.old.frames.items ++ frame ∷ []) (Control.Give value) machine.old.left (world store.new machine.new.joins.items) machine.new.frames.items machine.new.left step) }
+    ensures joins { OnOk result (JoinsStand store.new machine.new.joins.items) }
     ensures serves { M.serves matching.new program.entry.sound.now store.new }
     ensures keeps { Keeps store.old store.new }
 {
     matching.stays_serving();
     match frame {
         Frame::Element(label) => {
-            let made = store.elem_node(label, seq, Seq::empty())?;
-            Ok(Step::Next(Control::Give(made)))
+            let content = read(alloc, &mut machine.joins, store, value)?;
+            let made = store.elem_node(label, content, Seq::empty())?;
+            Ok(Step::Next(Control::Give(Value::of(made))))
         }
-        Frame::Sequence(parts) => {
-            next_of_sequence(program.sound, store, &mut machine.frames, parts, seq)
-        }
-        Frame::Call(parts) => next_of_call(alloc, program, store, machine, parts, seq),
+        Frame::Sequence(parts) => next_of_sequence(program.sound, store, machine, parts, value),
+        Frame::Call(parts) => next_of_call(alloc, program, store, machine, parts, value),
         Frame::Match(id, scope) => {
+            let seq = read(alloc, &mut machine.joins, store, value)?;
             let clauses = clauses_of(program.sound, id);
             let step = choose(alloc, program.sound, matching, store, clauses, &scope, seq)?;
             Ok(step)
@@ -59,20 +64,22 @@ pub(crate) fn resume<M: Matching>(
 fn next_of_sequence(
     sound: &SoundProgram,
     store: &mut Store,
-    frames: &mut Vec<Frame>,
+    machine: &mut Machine,
     parts: Parts,
-    seq: Seq,
+    value: Value,
 ) -> Result<Step, NoMemory>
-    requires { IsAwaited sound.now store.old frames.old.items (Frame.Sequence parts) seq }
-    ensures step { IfOk result (λ step. (n : ℕ) → IsStep sound.now store.old (frames.old.items ++ Frame.Sequence parts ∷ []) (Control.Give seq) n store.new frames.new.items n step) }
+    requires joins { JoinsStand store.old machine.old.joins.items }
+    requires awaited { IsAwaited sound.now (world store.old machine.old.joins.items) machine.old.frames.items (Frame.Sequence parts) value }
+    ensures step { IfOk result (λ step. IsStep sound.now (world store.old machine.old.joins.items) (machine.old.frames.items ++ Frame.Sequence parts ∷ []) (Control.Give value) machine.old.left (world store.new machine.new.joins.items) machine.new.frames.items machine.new.left step) }
+    ensures joins { OnOk result (JoinsStand store.new machine.new.joins.items) }
     ensures keeps { Keeps store.old store.new }
 {
     let mut parts = parts;
-    if let Some((next, scope)) = take_value(sound, &mut parts, seq)? {
-        frames.push(Frame::Sequence(parts))?;
+    if let Some((next, scope)) = take_value(sound, &mut parts, value)? {
+        machine.frames.push(Frame::Sequence(parts))?;
         return Ok(Step::Next(Control::Evaluate(next, scope)));
     }
-    let made = store.join(&parts.values)?;
+    let made = all_joined(&mut machine.joins, store, &parts.values)?;
     Ok(Step::Next(Control::Give(made)))
 }
 
@@ -80,14 +87,14 @@ fn next_of_sequence(
 fn take_value(
     sound: &SoundProgram,
     parts: &mut Parts,
-    seq: Seq,
+    value: Value,
 ) -> Result<Option<(ExprId, Scope)>, NoMemory>
     requires { IsRunnable sound.now parts.old.expr.at }
-    ensures more { OnOk result (HasOneMore parts.old parts.new seq) }
+    ensures more { OnOk result (HasOneMore parts.old parts.new value) }
     ensures next { IfOk result (λ next. MatchOption next (HasNoneLeft sound.now parts.old) (λ part. IsNextPart sound.now parts.old part.0 part.1)) }
 {
     let all = all_parts(sound, parts.expr);
-    keep_value(&mut parts.values, seq, all.len())?;
+    keep_value(&mut parts.values, value, all.len())?;
     let done = parts.values.as_slice().len();
     if done >= all.len() {
         return Ok(None);
@@ -98,13 +105,13 @@ fn take_value(
 
 /// Adds the value of one of so many parts. Millions of frames may wait with a few values each, so
 /// the first takes no more room than they need.
-fn keep_value(values: &mut Vec<Seq>, seq: Seq, parts: usize) -> Result<(), NoMemory>
-    ensures { OnOk result (values.new.items ≡ values.old.items ++ seq ∷ []) }
+fn keep_value(values: &mut Vec<Value>, value: Value, parts: usize) -> Result<(), NoMemory>
+    ensures { OnOk result (values.new.items ≡ values.old.items ++ value ∷ []) }
 {
     if values.is_empty() {
         values.reserve_exact(parts.min(4))?;
     }
-    values.push(seq)?;
+    values.push(value)?;
     Ok(())
 }
 
@@ -129,14 +136,15 @@ fn next_of_call(
     store: &Store,
     machine: &mut Machine,
     parts: Parts,
-    seq: Seq,
+    value: Value,
 ) -> Result<Step, NoMemory>
     requires names { AreFunctionNames program.names.now program.sound.now.functions }
-    requires awaited { IsAwaited program.sound.now store.now machine.old.frames.items (Frame.Call parts) seq }
-    ensures step { IfOk result (λ step. IsStep program.entry.sound.now store.now (machine.old.frames.items ++ Frame.Call parts ∷ []) (Control.Give seq) machine.old.left store.now machine.new.frames.items machine.new.left step) }
+    requires awaited { IsAwaited program.sound.now (world store.now machine.old.joins.items) machine.old.frames.items (Frame.Call parts) value }
+    ensures step { IfOk result (λ step. IsStep program.entry.sound.now (world store.now machine.old.joins.items) (machine.old.frames.items ++ Frame.Call parts ∷ []) (Control.Give value) machine.old.left (world store.now machine.new.joins.items) machine.new.frames.items machine.new.left step) }
+    ensures joins { machine.new.joins.items ≡ machine.old.joins.items }
 {
     let mut parts = parts;
-    if let Some((next, scope)) = take_value(program.sound, &mut parts, seq)? {
+    if let Some((next, scope)) = take_value(program.sound, &mut parts, value)? {
         machine.frames.push(Frame::Call(parts))?;
         return Ok(Step::Next(Control::Evaluate(next, scope)));
     }
@@ -169,13 +177,13 @@ fn called<'a>(program: NamedProgram<'a>, id: ExprId) -> Option<&'a Function>
     }
 }
 
-/// The parameters, each with its document.
+/// The parameters, each with its value.
 pub(crate) fn bind(
     alloc: Global,
     params: &[Param],
-    values: &[Seq],
-) -> Result<Vec<(Label, Seq)>, NoMemory>
-    ensures { IfOk result (λ made. made.items ≡ bound_seqs params.now values.now) }
+    values: &[Value],
+) -> Result<Vec<(Label, Value)>, NoMemory>
+    ensures { IfOk result (λ made. made.items ≡ bound_values params.now values.now) }
 {
     let mut made = Vec::with_capacity(alloc, params.len())?;
     let mut left = values;
@@ -213,16 +221,15 @@ fn choose<M: Matching>(
 ) -> Result<Step, NoMemory>
     requires serves { M.serves matching.old sound.now store.old }
     requires clauses { ClausesStand sound.now clauses.now }
-    requires scope { ScopeStands store.old scope.now.bindings.value.items }
     requires seq { BelongsTo store.old seq }
-    ensures chosen { IfOk result (IsChosen sound.now store.old store.new (clause_numbers clauses.now) scope.now.bindings.value.items (document_at store.old seq)) }
+    ensures chosen { IfOk result (λ step. (js : List Join) → JoinsStand store.old js → ScopeStands (world store.old js) scope.now.bindings.value.items → IsChosen sound.now (world store.old js) (world store.new js) (clause_numbers clauses.now) scope.now.bindings.value.items (document_at store.old seq) step) }
     ensures serves { M.serves matching.new sound.now store.new }
     ensures keeps { Keeps store.old store.new }
 {
     for clause in clauses {
         let found = matching.first_match(alloc, sound, clause.pattern, store, seq)?;
         if let Some(bindings) = found {
-            let inner = inner_scope(alloc, bindings, scope)?;
+            let inner = inner_scope(alloc, &bindings, scope)?;
             return Ok(Step::Next(Control::Evaluate(clause.body, inner)));
         }
     }
@@ -230,19 +237,16 @@ fn choose<M: Matching>(
 }
 
 /// The bindings, and the outer ones after them.
-fn inner_scope(alloc: Global, bindings: Vec<(Label, Seq)>, outer: &Scope) -> Result<Scope, NoMemory>
-    ensures { IfOk result (λ scope. scope.bindings.value.items ≡ bindings.items ++ outer.now.bindings.value.items) }
+fn inner_scope(alloc: Global, bindings: &[(Label, Seq)], outer: &Scope) -> Result<Scope, NoMemory>
+    ensures { IfOk result (λ scope. scope.bindings.value.items ≡ as_values bindings.now ++ outer.now.bindings.value.items) }
 {
-    let mut bindings = bindings;
-    push_bindings(&mut bindings, outer.bindings())?;
-    Scope::new(alloc, bindings)
-}
-
-fn push_bindings(bindings: &mut Vec<(Label, Seq)>, outer: &[(Label, Seq)]) -> Result<(), NoMemory>
-    ensures { OnOk result (bindings.new.items ≡ bindings.old.items ++ outer.now) }
-{
-    for (variable, seq) in outer {
-        bindings.push((variable.share()?, *seq))?;
+    let others = outer.bindings();
+    let mut made = Vec::with_capacity(alloc, bindings.len() + others.len())?;
+    for (variable, seq) in bindings {
+        made.push((variable.share()?, Value::of(*seq)))?;
     }
-    Ok(())
+    for (variable, value) in others {
+        made.push((variable.share()?, *value))?;
+    }
+    Scope::new(alloc, made)
 }

@@ -2,9 +2,9 @@ use Rattle.std.proofs.Common.{◌≡◌, ℕ, ◌≤◌, drop}
 use Rattle.xd_doc.specs.StoreNodes.{Keeps}
 use Rattle.xd_doc.specs.Stored.{document_at}
 use Rattle.xd_syntax.specs.Exprs.{clause_numbers}
-use Rattle.xd_meaning.specs.Meaning.{chosen_by}
+use Rattle.xd_meaning.specs.Meaning.{Environment, chosen_by}
 use Rattle.xd_eval.specs.Waiting.{clause_steps}
-use Rattle.xd_eval.specs.Machine.{matcher, caller, environment_in, clauses_in}
+use Rattle.xd_eval.specs.Machine.{matcher, caller, clauses_in}
 use Rattle.xd_eval.proofs.resuming.choose.Given as goal
 
 -- the clauses so far don't take the document
@@ -13,9 +13,7 @@ invariant-loop-clause g l =
     record {
       serves : g.M.Matching.serves l.matching l.sound l.store;
       keeps : Keeps l.fn.store l.store;
-      same : (n : ℕ) → chosen_by (matcher l.sound) (caller l.sound) n (environment_in l.fn.store l.scope.bindings.value.items) (document_at l.fn.store l.seq)
-          (clauses_in l.sound (clause_numbers l.clauses))
-          ≡ chosen_by (matcher l.sound) (caller l.sound) n (environment_in l.fn.store l.scope.bindings.value.items) (document_at l.fn.store l.seq)
-          (clauses_in l.sound (clause_numbers (drop l.clause-index l.clauses)));
+      same : (env : Environment) (n : ℕ) → chosen_by (matcher l.sound) (caller l.sound) n env (document_at l.fn.store l.seq) (clauses_in l.sound (clause_numbers l.clauses))
+          ≡ chosen_by (matcher l.sound) (caller l.sound) n env (document_at l.fn.store l.seq) (clauses_in l.sound (clause_numbers (drop l.clause-index l.clauses)));
       less : clause_steps (clauses_in l.sound (clause_numbers (drop l.clause-index l.clauses))) ≤ clause_steps (clauses_in l.sound (clause_numbers l.clauses));
     }
