@@ -8,6 +8,8 @@ const PROGRAM = "program.x", DOCUMENT = "document.xd", PROOF = "proof";
 const LIMITS = {program: 1048576, document: 16777216};
 // Longer texts are not coloured, and longer answers are cut where they are shown.
 const COLOURED = 120000, SHOWN = 100000, LISTED = 500;
+// Browsers are slow to show a text that is longer, so that only a part of it is there to see.
+const EDITED = 2000000;
 // Browsers take addresses of a million characters.
 const ADDRESS = 1000000;
 const PAUSE = 250, WAIT = 700, PROBE = 5000;
@@ -110,11 +112,12 @@ function spread(text) {
 
 // ---------------------------------------------------------------- The panes
 
+const PART = `Its first ${counted(SHOWN)} characters are shown, and it can't be changed here.`;
 const holdsFiles = event => event.dataTransfer.types.includes("Files");
 
 class Pane {
   constructor(id, name) {
-    Object.assign(this, {name, root: by(id), limit: LIMITS[id], lit: "", kept: ""});
+    Object.assign(this, {name, root: by(id), limit: LIMITS[id], lit: "", kept: "", whole: null});
     Object.assign(this, {marks: [], tips: new Map(), rows: [], found: [], pairs: new Map()});
     this.begins = [0];
     for (const it of ["textarea", "pre", ".editor", ".numbers", ".state", ".note"]) {
@@ -140,7 +143,7 @@ class Pane {
     });
   }
 
-  get text() { return this.textarea.value; }
+  get text() { return this.whole ?? this.textarea.value; }
 
   /** All tokens, also of a text that isn't coloured. */
   get tokens() { return this.found.length ? this.found : tokens(this.text); }
@@ -155,7 +158,10 @@ class Pane {
   }
 
   set(text, isQuiet = false) {
-    this.textarea.value = text;
+    const isLong = text.length > EDITED;
+    this.whole = isLong ? text : null;
+    this.textarea.value = isLong ? text.slice(0, SHOWN) : text;
+    this.textarea.readOnly = isLong;
     this.forget();
     this.draw();
     this.editor.scrollTop = this.editor.scrollLeft = 0;
@@ -167,8 +173,8 @@ class Pane {
 
   /** Says what stays until another text is there, but for what is said of a place. */
   keep(text) {
-    this.kept = text;
-    this.say(text);
+    this.kept = this.whole ? `${text} ${PART}`.trim() : text;
+    this.say(this.kept);
   }
 
   tell(text, kind = "") {
