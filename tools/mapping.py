@@ -149,16 +149,20 @@ def is_attribute(class_):
 
 
 class Content:
-    """What types tell of the content of an element: whether it is mixed, so that a text may stand at each place between its
-    items; whether it has a text; and whether its texts are all named. Of several contents that an element may have those count
-    that have the attributes and the children that came so far; one of them that is mixed is enough."""
+    """What types tell of the content of an element: whether it is mixed, so that a text may stand
+    at each place between its items; whether it has a text; and whether its texts are all named.
+
+    Of several contents that an element may have those count that have the attributes and the
+    children that came so far. White space is kept where each of them keeps it: what is left out
+    fits a mixed content too, and what is kept fits no other.
+    """
 
     def __init__(self, rules, types):
         self.rules, self.types, self.known = rules, types, {}
-        self.is_mixed = not types or any(map(rules.is_mixed, types))
-        classes = [head[1] for type_ in types for state in rules.states(type_) for head in rules.meaning.heads(state) if head[0] == "text"]
-        self.has_text = not types or bool(classes)
-        self.is_listed = bool(classes) and all(not is_except and all(" ".join(it.split()) == it for it in names) for names, is_except in classes)
+        self.is_mixed = all(map(rules.is_mixed, types))
+        self.has_text = all(map(rules.has_text, types))
+        classes = [it for type_ in types for it in rules.texts(type_)]
+        self.is_listed = bool(classes) and not any(map(is_open, classes))
 
     def inside(self, label):
         """What is known of the content where an element with this label stands in it, and the content of that element."""
@@ -173,6 +177,12 @@ class Content:
             here = self.rules.content(tuple(having)) if having and len(having) < len(self.types) else self
             self.known[label] = here, self.rules.content(tuple(found))
         return self.known[label]
+
+
+def is_open(class_):
+    """Whether a class of texts has other texts than words with one space between."""
+    names, is_except = class_
+    return is_except or any(" ".join(it.split()) != it for it in names)
 
 
 class Rules:
@@ -211,8 +221,13 @@ class Rules:
             self.mixed[type_] = self.has_text(type_) and all(map(self.takes_text, places))
         return self.mixed[type_]
 
+    def texts(self, type_):
+        """The classes of texts that a content has."""
+        heads = [head for state in self.states(type_) for head in self.meaning.heads(state)]
+        return [class_ for kind, class_, *_ in heads if kind == "text"]
+
     def has_text(self, type_):
-        return any(head[0] == "text" for state in self.states(type_) for head in self.meaning.heads(state))
+        return bool(self.texts(type_))
 
     def takes_text(self, state):
         heads = self.meaning.heads(state)
