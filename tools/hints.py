@@ -449,22 +449,22 @@ SECONDS = 10
 
 class Told:
     """A line of `check`, or a further fault of syntax: its number (0 of a warning), where it begins
-    and ends, its words, what is said beside them, and other places that matter, with what is said
-    of them."""
+    and ends, its words, what is said beside them, other places that matter, with what is said of
+    them, and what may be written in its stead, each with its begin and its end."""
 
-    __slots__ = ("number", "start", "end", "message", "hints", "related", "is_further")
+    __slots__ = ("number", "start", "end", "message", "hints", "related", "mends", "is_further")
 
     def __init__(self, number, start, end, message, is_further=False):
         self.number, self.start, self.end, self.message = number, start, end, message
-        self.hints, self.related, self.is_further = [], [], is_further
+        self.hints, self.related, self.mends, self.is_further = [], [], [], is_further
 
 
 class Explainer:
     """Explains what `check` answered of a text. Where `ask` is given, it answers commands about
     programs, as (status, output) of the command's name, a program's text, and further words."""
 
-    def __init__(self, text, ask=None):
-        self.text, self.ask, self.parsed = text, ask, notation.Parsed(text)
+    def __init__(self, text, ask=None, parsed=None):
+        self.text, self.ask, self.parsed = text, ask, parsed or notation.Parsed(text)
         self.tokens, self.until = self.parsed.tokens, time.monotonic() + SECONDS
         self.names = notation.Names(self.parsed)
 
@@ -569,7 +569,7 @@ class Explainer:
                 told.related.append((self.place(first), "the first one stands here"))
         elif number == 5:
             known = {it for it, entity in names.types.items()}
-            told.hints += self.nearest(word, known)
+            self.of_near(told, word, known)
             if word in TYPES and word not in names.types:
                 told.hints = [TYPES[word]]
             elif not told.hints:
@@ -581,7 +581,7 @@ class Explainer:
                 told.hints.append(f"{word} is a function")
             self.in_comment(told, "type", word)
         elif number == 6:
-            told.hints += self.nearest(word, names.functions)
+            self.of_near(told, word, names.functions)
             if word in names.types:
                 told.hints.append(f"{word} is a type")
             if word in ELSEWHERE:
@@ -591,7 +591,7 @@ class Explainer:
             self.in_comment(told, "fun", word)
         elif number == 7:
             scope = {it.name for it in names.in_scope(index)}
-            told.hints += self.nearest(word, scope)
+            self.of_near(told, word, scope)
             if word in names.functions:
                 told.hints.append(f"{word} is a function: a call is {word}(..)")
             elif word in names.types:
@@ -627,6 +627,10 @@ class Explainer:
     def nearest(word, known):
         found = near(word, known)
         return [f"did you mean {' or '.join(found)}?"] if found else []
+
+    def of_near(self, told, word, known):
+        told.mends = [(it, told.start, told.start + len(word)) for it in near(word, known)]
+        told.hints += self.nearest(word, known)
 
     def node_at(self, index, kind):
         """The node of a kind whose name is a token."""
@@ -856,6 +860,7 @@ class Explainer:
                 start, end = self.parsed.range(entity.node)
                 if self.is_better(self.text[:start] + written + self.text[end:]):
                     told.related.append((self.place(entity.node.name), BOUND))
+                    told.mends.append((written, start, end))
                     return [*said, f"write {written}, and that way is gone"]
         told.related += [(self.place(entity.node.name), BOUND) for entity in found]
         return said

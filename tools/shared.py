@@ -7,6 +7,7 @@ signal.signal(signal.SIGINT, signal.SIG_DFL)
 import argparse
 import difflib
 import functools
+import gc
 import importlib.machinery
 import importlib.util
 import os
@@ -284,15 +285,18 @@ def excerpt(text, at):
     return f"{margin} |\n{line} | {source}\n{margin} | {blanks}^"
 
 
-def deep(main):
+def deep(main, is_ended_by_pipe=True):
     """Runs a script's main with room for types that nest deep, and ends with its status. What can
     go wrong outside of it ends with a line and a status of its own."""
     # (what reads the output may have enough of it, as head does)
-    signal.signal(signal.SIGPIPE, signal.SIG_DFL)
+    if is_ended_by_pipe:
+        signal.signal(signal.SIGPIPE, signal.SIG_DFL)
     for stream in (sys.stdout, sys.stderr):
         if stream is None:
             os._exit(UNWRITTEN)
         stream.reconfigure(encoding="utf-8", errors="surrogateescape")
+    # (trees of large texts have no cycles, and to look for some takes longer than to read the texts)
+    gc.set_threshold(200_000, 50, 100)
     sys.setrecursionlimit(100_000)
     threading.stack_size(256 * 1024 * 1024)
     ended = []

@@ -56,7 +56,8 @@ def in_names(parsed, name, shown, ask):
 
 def bound(word, typed):
     """A variable of a pattern with its type."""
-    is_row = notation.type_text(typed)[0] in ("seq", "alt")
+    type_ = notation.type_text(typed)
+    is_row = type_[0] in ("seq", "alt") and type_ != EMPTY
     return f"val {word} as {f'({typed})' if is_row else typed}"
 
 
