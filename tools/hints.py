@@ -934,12 +934,7 @@ class Explainer:
         return [it for it in self.parsed.roots if it.kind == kind]
 
     def signature(self, function):
-        """A function whose body only calls it."""
-        head = self.text[self.parsed.range(function)[0] : self.parsed.range(function.parts[-1])[0]]
-        arguments = "".join(
-            f"({self.tokens.word(it.name)})" for it in function.parts if it.kind == "param"
-        )
-        return f"{head}{self.tokens.word(function.name)}{arguments}\n"
+        return signature(self.parsed, function)
 
     def rendered(self, body, never):
         """A body's matches alone, each of which takes all that comes, in place of the body."""
@@ -959,6 +954,13 @@ class Explainer:
             clauses.append(f"Any -> {never}(())")
             found.append(f"(match {scrutinee} with {' | '.join(clauses)})")
         return ", ".join(found)
+
+
+def signature(parsed, function):
+    """A function whose body only calls it."""
+    head = parsed.text[parsed.range(function)[0] : parsed.range(function.parts[-1])[0]]
+    arguments = "".join(f"({parsed.word(it.name)})" for it in function.parts if it.kind == "param")
+    return f"{head}{parsed.word(function.name)}{arguments}\n"
 
 
 def report(name, text, output, places=None):

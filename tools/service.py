@@ -315,9 +315,11 @@ class Text:
         found = {"label": label, "kind": ITEM_KINDS[kind]}
         if detail:
             found["detail"] = shortened(detail)
-        if kind == "label" and self.client.has_snippets:
+        if kind == "label" and self.text.startswith("[", at):
+            new = label[:-1]
+        elif kind == "label" and self.client.has_snippets:
             found.update(insertTextFormat=2)
-            new = f"{label.rstrip('[')}[$0]"
+            new = f"{label}$0]"
         found["textEdit"] = {"range": self.lines.range(start, at), "newText": new or label}
         return found
 
@@ -555,14 +557,11 @@ class Program(Text):
 
     def types_of(self, entity, task):
         """The type of a variable for the check, and by first matches where that is less, each as a
-        text and definitions that it needs; None where the program has faults."""
-        place = self.tokens.place(self.tokens.starts[entity.definitions[0]])
-        status, output = task.ask("types", self.text)
-        wide = shown.blocks(output).get(place) if status == 0 else None
+        text and definitions that it needs; None where its function has faults."""
+        wide = self.block("types", entity, task)
         if not wide:
             return None
-        found = self.in_names(wide, task)
-        precise = shown.blocks(task.ask("precise", self.text)[1]).get(place, wide)
+        found, precise = self.in_names(wide, task), self.block("precise", entity, task) or wide
         if precise == wide:
             return found, None
         less, its_text = shown.renamed(*precise, "P")
@@ -570,6 +569,32 @@ class Program(Text):
         if task.ask("subtype", its_text + text, more, less)[0] != 6:
             return found, None
         return found, self.in_names(precise, task)
+
+    def block(self, command, entity, task):
+        """What `types` or `precise` shows of a variable. Of other functions than its own the
+        declared types matter alone, so their bodies are left out."""
+        start = self.tokens.starts[entity.definitions[0]]
+        for root in self.parsed.roots:
+            begin, end = self.parsed.range(root)
+            if begin <= start < end:
+                status, output = task.ask(command, f"{self.text[begin:end]}\n{self.others(root)}")
+                place = shared.place_of(self.text[begin:end], start - begin)
+                return shown.blocks(output).get(place) if status == 0 else None
+        return None
+
+    def others(self, function):
+        """The types of the program, and the functions but one, without their bodies."""
+        with self.lock:
+            if "_heads" not in self.__dict__:
+                self._heads = {
+                    id(it): hints.signature(self.parsed, it)
+                    for it in self.parsed.roots
+                    if it.kind == "fundef"
+                }
+                self._types = shown.definitions_of(self.parsed)
+        return self._types + "".join(
+            head for number, head in self._heads.items() if number != id(function)
+        )
 
     def in_names(self, block, task):
         """A shown type in the author's names, as a part, and definitions that it needs."""
@@ -581,9 +606,7 @@ class Program(Text):
     def precise(self, entity, task):
         """What first matches give a variable, in the author's names, and definitions that it
         needs; None where the program has faults."""
-        place = self.tokens.place(self.tokens.starts[entity.definitions[0]])
-        status, output = task.ask("precise", self.text)
-        block = shown.blocks(output).get(place) if status == 0 else None
+        block = self.block("precise", entity, task)
         return self.in_names(block, task) if block else None
 
     def actions(self, start, end, only, task):
