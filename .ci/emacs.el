@@ -1,7 +1,7 @@
 ;;; What Emacs shows and does with the language server, for .ci/editors  -*- lexical-binding: t; -*-
 
-;; The facts, as JSON in the file `out`.  The file that is named is a program whose first line has a
-;; wrong name.
+;; The facts, as JSON in the file `out`.  The first file that is named is a program whose first line
+;; has a wrong name; the second one is laid out.
 
 (require 'cl-lib)
 (require 'json)
@@ -42,8 +42,10 @@
              (let ((begin (flymake-diagnostic-beg it)))
                (vector (line-number-at-pos begin)
                        (buffer-substring-no-properties begin (flymake-diagnostic-end it))
-                       (symbol-name (flymake-diagnostic-type it))
-                       (car (split-string (flymake-diagnostic-text it) "\n")))))
+                       (string-remove-prefix "eglot-" (symbol-name (flymake-diagnostic-type it)))
+                       ;; (in front of it stands what Eglot says of the server)
+                       (replace-regexp-in-string "\\`xduce[^:]*: \\|\n\\(?:.\\|\n\\)*\\'" ""
+                                                 (flymake-diagnostic-text it)))))
            (flymake-diagnostics))))
 
 (defun places (found)
@@ -67,7 +69,6 @@
 (defun look ()
   (find-file (pop command-line-args-left))
   (switch-to-buffer (current-buffer))
-  (tell 'mode (symbol-name major-mode))
   (tell 'faces (faces))
   (apply #'eglot--connect (eglot--guess-contact))
   (wait #'eglot-current-server)
@@ -80,7 +81,7 @@
     (eglot-hover-eldoc-function (lambda (text &rest _) (setq shown text)))
     (wait (lambda () shown))
     (tell 'hover (and shown (substring-no-properties shown))))
-  (tell 'definition (places (xref-backend-definitions 'eglot "Title")))
+  (tell 'definition (aref (places (xref-backend-definitions 'eglot "Title")) 0))
   (tell 'references (places (xref-backend-references 'eglot "Title")))
   (let ((capf (eglot-completion-at-point)))
     (tell 'completed (vconcat (mapcar #'substring-no-properties
@@ -91,19 +92,30 @@
     (tell 'renamed (lines))
     (erase-buffer)
     (insert before))
-  (eglot-format-buffer)
-  (tell 'formatted (lines))
 
+  ;; (which a timer does where somebody is at the keyboard)
+  (eglot--signal-textDocument/didChange)
   (wait #'flymake-diagnostics)
   (go 1 "Titel")
   (let ((action (aref (vconcat (eglot-code-actions (point) (+ (point) 5))) 0)))
     (tell 'actions (vector (plist-get action :title)))
     (eglot--apply-workspace-edit (plist-get action :edit)))
+  (eglot--signal-textDocument/didChange)
   (tell 'corrected (aref (lines) 0))
   (wait (lambda () (not (flymake-diagnostics))))
   (tell 'left (faults))
+
+  (eglot-format-buffer)
+  (tell 'formatted (lines))
   (set-buffer-modified-p nil)
-  (eglot-shutdown-all))
+  (eglot-shutdown-all)
+
+  ;; Indentation is that of the layout.
+  (find-file (pop command-line-args-left))
+  (tell 'mode (symbol-name major-mode))
+  (let ((before (append (lines) nil)))
+    (indent-region (point-min) (point-max))
+    (tell 'moved (vconcat (cl-set-difference (append (lines) nil) before :test #'equal)))))
 
 (condition-case error
     (look)

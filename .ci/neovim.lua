@@ -22,7 +22,8 @@ local function faults()
   for _, it in ipairs(vim.diagnostic.get(0)) do
     local row = it.lnum + 1
     local word = lines()[row]:sub(it.col + 1, it.end_col)
-    table.insert(found, { row, word, it.severity, (it.message:gsub('\n.*', '')) })
+    local severity = vim.diagnostic.severity[it.severity]:lower()
+    table.insert(found, { row, word, severity, (it.message:gsub('\n.*', '')) })
   end
   return found
 end
@@ -37,6 +38,23 @@ end
 
 local function keys(text)
   vim.api.nvim_feedkeys(vim.api.nvim_replace_termcodes(text, true, true, true), 'mx', false)
+end
+
+--- What may stand where a word is begun, as far as it begins so.
+local function completed(line, text, count)
+  go(line, text)
+  local parameters = vim.lsp.util.make_position_params(0, 'utf-16')
+  parameters.position.character = parameters.position.character + count
+  local found = {}
+  local answers = vim.lsp.buf_request_sync(0, 'textDocument/completion', parameters, 15000)
+  for _, answer in pairs(answers or {}) do
+    for _, it in ipairs(answer.result.items or answer.result) do
+      if vim.startswith(it.label, text:sub(1, count)) then
+        table.insert(found, it.label)
+      end
+    end
+  end
+  return found
 end
 
 local function tell()
@@ -58,7 +76,7 @@ local function tell()
 
   go(3, 'Title')
   keys('<C-]>')
-  facts.definition = vim.api.nvim_win_get_cursor(0)
+  facts.definition = vim.api.nvim_win_get_cursor(0)[1]
 
   go(3, 'Title')
   keys('grr')
@@ -70,10 +88,7 @@ local function tell()
   end, vim.fn.getqflist())
   vim.cmd('cclose')
 
-  go(3, 'Title')
-  facts.completed = vim.tbl_map(function(it)
-    return it.word
-  end, vim.lsp.buf_request_sync and M_completed() or {})
+  facts.completed = completed(3, 'Title', 2)
 
   go(3, 'Title')
   vim.lsp.buf.rename('Heading')
@@ -82,9 +97,6 @@ local function tell()
   end)
   facts.renamed = lines()
   vim.cmd('silent undo')
-
-  vim.cmd('XduceFormat')
-  facts.formatted = lines()
 
   vim.ui.select = function(items, options, choose)
     facts.actions = vim.tbl_map(options.format_item, items)
@@ -100,18 +112,16 @@ local function tell()
     return #vim.diagnostic.get(0) == 0
   end)
   facts.left = faults()
-end
 
-function M_completed()
-  local parameters = vim.lsp.util.make_position_params()
-  local found = {}
-  local answers = vim.lsp.buf_request_sync(0, 'textDocument/completion', parameters, 15000)
-  for _, answer in pairs(answers or {}) do
-    for _, it in ipairs(answer.result and (answer.result.items or answer.result) or {}) do
-      table.insert(found, { word = it.label })
-    end
-  end
-  return found
+  vim.cmd('XduceFormat')
+  facts.formatted = lines()
+
+  vim.cmd('write | edit wrong.xd')
+  wait(function()
+    return #vim.diagnostic.get(0) > 0
+  end)
+  facts.document = faults()
+  facts.clients = #vim.lsp.get_active_clients()
 end
 
 local is_done, told = pcall(tell)

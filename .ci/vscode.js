@@ -1,8 +1,8 @@
 // What VS Code's extension shows and does with the language server, for .ci/editors: the facts, as
-// JSON. VS Code itself isn't there: a stand-in has as much of its calls as the extension uses, so
-// this tries the protocol and the shapes of answers alone.
+// JSON in the file `out`. VS Code itself isn't there: a stand-in has as much of its calls as the
+// extension uses, so this tries the protocol and the shapes of answers alone.
 //
-//   node vscode.js EXTENSION FILE SERVER..
+//   node vscode.js EXTENSION FILE [SERVER]
 'use strict';
 
 const fs = require('fs');
@@ -17,6 +17,7 @@ const logged = [];
 const diagnostics = new Map();
 
 const dispose = () => {};
+const log = (text) => logged.push(text);
 const listen = (event) => (call) => {
   (listeners[event] = listeners[event] || new Set()).add(call);
   return { dispose: () => listeners[event].delete(call) };
@@ -203,7 +204,7 @@ const vscode = {
     },
   },
   window: {
-    createOutputChannel: () => ({ append: (it) => logged.push(it), appendLine: (it) => logged.push(it), dispose }),
+    createOutputChannel: () => ({ append: log, appendLine: log, dispose }),
     showErrorMessage: (text) => shown.push(text),
     showWarningMessage: (text) => shown.push(text),
     showInformationMessage: (text) => shown.push(text),
@@ -228,25 +229,29 @@ async function until(what) {
   }
 }
 
+const SEVERITIES = ['error', 'warning', 'information', 'hint'];
 const faults = (document) => diagnostics.get(document.uri.toString()) || [];
 const told = (document) =>
   faults(document).map((it) => {
-    const code = it.code && it.code.target ? it.code.value : it.code;
     const [line] = it.message.split('\n');
-    return [it.range.start.line + 1, document.part(it.range), it.severity, code, line];
+    return [it.range.start.line + 1, document.part(it.range), SEVERITIES[it.severity], line];
   });
 const lines = (text) => text.replace(/\n$/, '').split('\n');
 
 async function look(facts, { activate, deactivate }) {
   await activate({ subscriptions: [] });
-  await until(() => faults(opened).length);
+  await until(() => faults(opened).length || shown.length);
+  facts.shown = shown;
+  if (shown.length) {
+    return;
+  }
   facts.faults = told(opened);
 
   const at = opened.place(3, 'Title');
   const hover = await registered.registerHoverProvider.provideHover(opened, at);
   facts.hover = hover && hover.contents.map((it) => it.value).join('\n');
   const definitions = await registered.registerDefinitionProvider.provideDefinition(opened, at);
-  facts.definition = definitions.map((it) => it.range.start.line + 1);
+  [facts.definition] = definitions.map((it) => it.range.start.line + 1);
   const references = await registered.registerReferenceProvider.provideReferences(opened, at, {
     includeDeclaration: true,
   });
@@ -264,10 +269,6 @@ async function look(facts, { activate, deactivate }) {
   const renamer = registered.registerRenameProvider;
   const renamed = await renamer.provideRenameEdits(opened, at, 'Heading');
   facts.renamed = lines(opened.with([...renamed.all.values()][0]));
-  const formatter = registered.registerDocumentFormattingEditProvider;
-  const options = { tabSize: 2, insertSpaces: true };
-  const edits = await formatter.provideDocumentFormattingEdits(opened, options);
-  facts.formatted = lines(opened.with(edits));
 
   const wrong = opened.place(1, 'Titel');
   const where = new Range(wrong, wrong);
@@ -277,6 +278,11 @@ async function look(facts, { activate, deactivate }) {
   [facts.corrected] = lines(opened.text);
   await until(() => !faults(opened).length);
   facts.left = told(opened);
+
+  const formatter = registered.registerDocumentFormattingEditProvider;
+  const options = { tabSize: 2, insertSpaces: true };
+  const edits = await formatter.provideDocumentFormattingEdits(opened, options);
+  facts.formatted = lines(opened.with(edits));
 
   // A server that is ended is started again, and has the text as it stands.
   opened.apply([{ range: new Range(new Position(1, 5), new Position(1, 10)), newText: 'Head' }]);
@@ -289,7 +295,6 @@ async function look(facts, { activate, deactivate }) {
   fire('close', opened);
   facts.closed = told(opened);
   await deactivate();
-  facts.shown = shown;
 }
 
 const facts = {};
@@ -297,5 +302,5 @@ look(facts, require(`${extension}/extension.js`))
   .catch((error) => {
     facts.error = `${error.stack}\n${logged.join('\n')}`;
   })
-  .then(() => fs.writeSync(1, JSON.stringify(facts)))
+  .then(() => fs.writeFileSync('out', JSON.stringify(facts)))
   .then(() => process.exit(0));
