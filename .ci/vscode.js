@@ -213,6 +213,12 @@ const vscode = {
     workspaceFolders: undefined,
     textDocuments: [opened],
     getConfiguration: () => ({ server, get: (it) => ({ server })[it] }),
+    createFileSystemWatcher: () => ({
+      onDidCreate: listen('create'),
+      onDidChange: listen('alter'),
+      onDidDelete: listen('delete'),
+      dispose,
+    }),
     onDidOpenTextDocument: listen('open'),
     onDidChangeTextDocument: listen('change'),
     onDidCloseTextDocument: listen('close'),

@@ -130,7 +130,17 @@ class Session {
     };
     const isOurs = (document) => vscode.languages.match(SELECTOR, document) > 0;
     const ours = (call) => (it) => isOurs(it.document || it) && call(it);
+    // (a document's program may be open nowhere)
+    const files = workspace.createFileSystemWatcher('**/*.x');
+    const altered = (type) => (uri) =>
+      this.client.notify('workspace/didChangeWatchedFiles', {
+        changes: [{ uri: uri.toString(), type }],
+      });
     this.registered.push(
+      files,
+      files.onDidCreate(altered(1)),
+      files.onDidChange(altered(2)),
+      files.onDidDelete(altered(3)),
       workspace.onDidOpenTextDocument(ours(open)),
       workspace.onDidChangeTextDocument(ours(change)),
       workspace.onDidCloseTextDocument(ours(close)),

@@ -1,7 +1,8 @@
 -- Neovim's client of XDuce's language server, from Neovim 0.7 on.
 --
---   vim.g.xduce_server    the server, as a list of words; false where none is wanted
---   vim.g.no_xduce_maps   set where no keys are wanted, as is vim.g.no_plugin_maps
+--   vim.g.xduce_server     the server, as a list of words; false where none is wanted
+--   vim.g.xduce_settings   its settings, a table
+--   vim.g.no_xduce_maps    set where no keys are wanted, as is vim.g.no_plugin_maps
 
 local M = {}
 
@@ -77,7 +78,12 @@ function M.attach()
     vim.notify_once('xduce: there is no server ' .. words[1], vim.log.levels.WARN)
     return
   end
-  start({ name = 'xduce', cmd = words, root_dir = root_of(vim.api.nvim_buf_get_name(0)) })
+  start({
+    name = 'xduce',
+    cmd = words,
+    root_dir = root_of(vim.api.nvim_buf_get_name(0)),
+    init_options = vim.g.xduce_settings,
+  })
   vim.bo.omnifunc = 'v:lua.vim.lsp.omnifunc'
   vim.bo.tagfunc = 'v:lua.vim.lsp.tagfunc'
   vim.api.nvim_buf_create_user_command(0, 'XduceFormat', M.format, { desc = 'lay out the text' })
