@@ -71,7 +71,7 @@ end
 --- Attaches the current buffer to the server of its folder, which is started where none runs.
 function M.attach()
   local words = server()
-  if not words or vim.bo.buftype ~= '' then
+  if type(words) ~= 'table' or not words[1] or vim.bo.buftype ~= '' then
     return
   end
   if vim.fn.executable(words[1]) ~= 1 then
@@ -86,6 +86,7 @@ function M.attach()
   })
   vim.bo.omnifunc = 'v:lua.vim.lsp.omnifunc'
   vim.bo.tagfunc = 'v:lua.vim.lsp.tagfunc'
+  vim.b.undo_ftplugin = (vim.b.undo_ftplugin or 'setlocal') .. ' | setlocal omnifunc< tagfunc<'
   vim.api.nvim_buf_create_user_command(0, 'XduceFormat', M.format, { desc = 'lay out the text' })
   if vim.g.no_plugin_maps or vim.g.no_xduce_maps then
     return
