@@ -10,6 +10,7 @@ const { pathToFileURL, fileURLToPath } = require('url');
 const Module = require('module');
 
 const [extension, name, ...server] = process.argv.slice(2);
+const SETTINGS = { server, inlayHints: true };
 const registered = {};
 const listeners = {};
 const shown = [];
@@ -212,7 +213,7 @@ const vscode = {
   workspace: {
     workspaceFolders: undefined,
     textDocuments: [opened],
-    getConfiguration: () => ({ server, get: (it) => ({ server })[it] }),
+    getConfiguration: () => ({ ...SETTINGS, get: (it) => SETTINGS[it] }),
     createFileSystemWatcher: () => ({
       onDidCreate: listen('create'),
       onDidChange: listen('alter'),
@@ -272,7 +273,26 @@ async function look(facts, { activate, deactivate }) {
   const symbols = await registered.registerDocumentSymbolProvider.provideDocumentSymbols(opened);
   facts.symbols = symbols.map((it) => `${it.name} ${it.kind}`);
 
+  const highlighter = registered.registerDocumentHighlightProvider;
+  const highlights = await highlighter.provideDocumentHighlights(opened, at);
+  facts.highlights = highlights.map((it) => it.range.start.line + 1);
+  const helper = registered.registerSignatureHelpProvider;
+  const within = opened.place(3, 'all)');
+  const help = await helper.provideSignatureHelp(opened, within);
+  facts.signature = help && [help.signatures[0].label, help.signatures[0].parameters[0].label];
+  const folder = registered.registerFoldingRangeProvider;
+  facts.folds = (await folder.provideFoldingRanges(opened)) || [];
+  const selector = registered.registerSelectionRangeProvider;
+  const [selection] = await selector.provideSelectionRanges(opened, [within]);
+  facts.selected = [selection, selection.parent].map((it) => opened.part(it.range));
+  const colours = registered.registerDocumentSemanticTokensProvider;
+  facts.tokens = (await colours.provideDocumentSemanticTokens(opened)).data.length % 5;
+  const workspace = registered.registerWorkspaceSymbolProvider;
+  const found = await workspace.provideWorkspaceSymbols('Tit');
+  facts.names = found.map((it) => it.name);
+
   const renamer = registered.registerRenameProvider;
+  facts.placeholder = (await renamer.prepareRename(opened, at)).placeholder;
   const renamed = await renamer.provideRenameEdits(opened, at, 'Heading');
   facts.renamed = lines(opened.with([...renamed.all.values()][0]));
 
@@ -284,6 +304,10 @@ async function look(facts, { activate, deactivate }) {
   [facts.corrected] = lines(opened.text);
   await until(() => !faults(opened).length);
   facts.left = told(opened);
+  const hinter = registered.registerInlayHintsProvider;
+  const whole = new Range(new Position(0, 0), new Position(9, 0));
+  const hints = (await hinter.provideInlayHints(opened, whole)) || [];
+  facts.hints = hints.map((it) => [it.position.line + 1, it.label]);
 
   const formatter = registered.registerDocumentFormattingEditProvider;
   const options = { tabSize: 2, insertSpaces: true };
