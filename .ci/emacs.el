@@ -11,6 +11,7 @@
 
 (setq eglot-sync-connect 15
       eglot-confirm-server-initiated-edits nil
+      eglot-confirm-server-edits nil
       eglot-send-changes-idle-time 0
       make-backup-files nil)
 
@@ -99,7 +100,7 @@
   (go 1 "Titel")
   (let ((action (aref (vconcat (eglot-code-actions (point) (+ (point) 5))) 0)))
     (tell 'actions (vector (plist-get action :title)))
-    (eglot--apply-workspace-edit (plist-get action :edit)))
+    (eglot--apply-workspace-edit (plist-get action :edit) nil))
   (eglot--signal-textDocument/didChange)
   (tell 'corrected (aref (lines) 0))
   (wait (lambda () (not (flymake-diagnostics))))
