@@ -245,6 +245,30 @@ const told = (document) =>
   });
 const lines = (text) => text.replace(/\n$/, '').split('\n');
 
+// A server of a few lines: it answers in pieces of a byte, and then by what is no frame.
+const ODD = `
+let count = 0;
+process.stdin.on('data', async (data) => {
+  const { id } = JSON.parse(data.toString().split('\\r\\n\\r\\n')[1]);
+  const body = JSON.stringify({ jsonrpc: '2.0', id, result: '\u00fc\u{1d11e}' });
+  const frame = 'content-length: ' + Buffer.byteLength(body) + '\\r\\n\\r\\n' + body;
+  for (const byte of Buffer.from(count++ ? 'no frame\\r\\n\\r\\n' : frame)) {
+    process.stdout.write(Buffer.from([byte]));
+    await new Promise(setImmediate);
+  }
+});
+`;
+
+async function askOdd(facts, { Client }) {
+  const words = [process.execPath, '-e', ODD];
+  const client = new Client(words, undefined, { said: log, end: (reason) => shown.push(reason) });
+  facts.odd = [await client.request('first')];
+  for (const method of ['second', 'third']) {
+    facts.odd.push(await client.request(method).catch((error) => error.message));
+  }
+  facts.odd.push(...shown.splice(0));
+}
+
 async function look(facts, { activate, deactivate }) {
   await activate({ subscriptions: [] });
   await until(() => faults(opened).length || shown.length);
@@ -325,6 +349,7 @@ async function look(facts, { activate, deactivate }) {
   fire('close', opened);
   facts.closed = told(opened);
   await deactivate();
+  await askOdd(facts, require(`${extension}/client.js`));
 }
 
 const facts = {};
