@@ -78,6 +78,14 @@
   "Go back to the begin of a definition, COUNT times, or on where that is negative."
   (re-search-backward "^\\(?:type\\|fun\\)\\_>" nil 'move (or count 1)))
 
+(defun xduce--definition-end ()
+  "Go on from the begin of a definition to its end."
+  (unless (eobp)
+    (forward-char))
+  (when (re-search-forward "^\\(?:type\\|fun\\)\\_>" nil 'move)
+    (goto-char (match-beginning 0)))
+  (forward-comment (- (buffer-size))))
+
 (defun xduce--match (limit)
   "The last match that stands at this depth of brackets behind LIMIT, or nil."
   (let ((depth (car (syntax-ppss))) found)
@@ -147,10 +155,11 @@
   (setq-local indent-tabs-mode nil)
   (setq-local electric-indent-chars (append "|])" electric-indent-chars))
   (setq-local beginning-of-defun-function #'xduce--definition)
+  (setq-local end-of-defun-function #'xduce--definition-end)
   (setq-local imenu-generic-expression
               `(("Types" ,(concat "^type[ \t]+\\(" xduce--name "\\)") 1)
                 ("Functions" ,(concat "^fun[ \t]+\\(" xduce--name "\\)") 1)))
-  (when buffer-file-name
+  (when (and buffer-file-name (string-match-p "\\.x\\'" buffer-file-name))
     (setq-local compile-command
                 (concat "xduce-explain "
                         (shell-quote-argument (file-name-nondirectory buffer-file-name))))))
