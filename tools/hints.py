@@ -966,7 +966,8 @@ def signature(parsed, function):
 def report(name, text, output, places=None):
     """Writes what the program answered of a file, as tools/explain does. A fault without a place is
     one of a name on the command line."""
-    source, explainer = shared.Source(name, text, places), Explainer(text, shared.ask_of_text)
+    source = shared.Source(name, text, places)
+    explainer = Explainer(text, shared.ask_within(SECONDS))
     for told in explainer.told(output):
         source.report(told.start, told.message, told.hints, told.related)
     for line in output.splitlines():

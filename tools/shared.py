@@ -17,6 +17,7 @@ import subprocess
 import sys
 import tempfile
 import threading
+import time
 
 HERE = os.path.dirname(os.path.realpath(__file__))
 SHOWN = 100
@@ -81,6 +82,20 @@ def ask_of_text(command, text, *words, timeout=None):
         with open(path, "w", encoding="utf-8", newline="") as file:
             file.write(text)
         return ask(command, path, *words, timeout=timeout)
+
+
+def ask_within(seconds):
+    """What answers commands as ask_of_text does, but for so many seconds in all: what isn't
+    answered by then has the status of what there isn't enough memory for."""
+    until = time.monotonic() + seconds
+
+    def ask_in_time(command, text, *words):
+        try:
+            return ask_of_text(command, text, *words, timeout=until - time.monotonic())
+        except subprocess.TimeoutExpired:
+            return NO_MEMORY, ""
+
+    return ask_in_time
 
 
 def own_name():

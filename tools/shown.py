@@ -13,9 +13,10 @@ import shared
 from notation import EMPTY
 
 VARIABLE = re.compile(r"(\d+):(\d+): variable (\w+) as (.*)")
-# Parts that stay as they are, and the longest program that is asked about.
+# Parts that stay as they are, and the longest program that is asked about: of the types of a whole
+# schema as DocBook an answer takes too long for what it tells.
 PLAIN = (EMPTY, ("name", "Any"), ("text", notation.ALL))
-LONGEST = 1_000_000
+LONGEST = 150_000
 
 
 def blocks(output):
@@ -48,10 +49,27 @@ def in_names(parsed, name, shown, ask):
     The program is given as it was parsed, the type by its name and its definitions as they are
     shown, and `ask` answers commands about texts, as shared.ask_of_text does. Gives the type as it
     is written, such as `Part+`, and the definitions that it needs beside the program's, as a text
-    that is mostly empty. Where nothing can be asked, no name is found. The answers are kept, for
-    all programs with the same types.
+    that is mostly empty. Where there is no answer, no name is found. Answers are kept, for all
+    programs with the same types.
     """
-    return named(definitions_of(parsed), name, shown, ask)
+    found = notation.definitions(shown)
+    try:
+        same = same_types(definitions_of(parsed), shown, ask)
+    except Unanswered:
+        same = {}
+    root = same.get(("name", name)) or rewritten(found[name], same)
+    waiting, needed = names_in(root), {}
+    while waiting:
+        other = waiting.pop(0)
+        if other in found and other != "Any" and other not in needed:
+            needed[other] = rewritten(found[other], same)
+            waiting += names_in(needed[other])
+    text_of = shared.types.text_of
+    return text_of(root), "".join(f"type {it} = {text_of(needed[it])}\n" for it in needed)
+
+
+class Unanswered(Exception):
+    """The program gave no answer."""
 
 
 def bound(word, typed):
@@ -69,12 +87,11 @@ def definitions_of(parsed):
 
 @functools.lru_cache(maxsize=4)
 def declared(types):
-    """The declared types by what their documents may begin with, in the order of the text; None
-    where the definitions have faults."""
+    """The declared types by what their documents may begin with, in the order of the text."""
     try:
         found = notation.definitions(types)
     except notation.Malformed:
-        return None
+        return {}
     meaning, by_key = beginnings(found), {}
     for name in found:
         if name != "Any":
@@ -106,24 +123,9 @@ def both(left, right):
     return notation.class_named(set(some) | set(others), False)
 
 
-@functools.lru_cache(maxsize=1024)
-def named(types, name, shown, ask):
-    """The same of the definitions alone."""
-    known, found = declared(types), notation.definitions(shown)
-    same = same_types(types, shown, candidates(known, found), ask) if known else {}
-    root = same.get(("name", name)) or rewritten(found[name], same)
-    waiting, needed = names_in(root), {}
-    while waiting:
-        other = waiting.pop(0)
-        if other in found and other != "Any" and other not in needed:
-            needed[other] = rewritten(found[other], same)
-            waiting += names_in(needed[other])
-    text_of = shared.types.text_of
-    return text_of(root), "".join(f"type {it} = {text_of(needed[it])}\n" for it in needed)
-
-
-def candidates(known, found):
+def candidates(known, shown):
     """The parts of shown definitions and the declared types that may mean the same."""
+    found = notation.definitions(shown)
     meaning, pairs = beginnings(found), {}
     for name, body in found.items():
         for part in (("name", name), *parts_of(body)) if name != "Any" else ():
@@ -152,30 +154,28 @@ def singles(type_):
     return []
 
 
-def same_types(types, shown, pairs, ask):
-    """The name of a declared type by each part that means the same: the first one of the text."""
-    mark = fresh(types + shown)
+@functools.lru_cache(maxsize=1024)
+def same_types(types, shown, ask):
+    """By each part of shown definitions the declared type that means the same: the first one of the
+    text."""
+    pairs, mark = candidates(declared(types), shown), fresh(types + shown)
+    parts = {part: f"{mark}{number}" for number, part in enumerate(dict(pairs))}
     lines = [*types.split("\n"), *shown.split("\n")]
-    numbers = {}
-    for part, _ in pairs:
-        if part not in numbers:
-            numbers[part] = len(numbers)
-            lines.append(f"type {mark}{numbers[part]} = {shared.types.text_of(part)}")
+    lines += [f"type {its} = {shared.types.text_of(part)}" for part, its in parts.items()]
     first = len(lines) + 1
-    for count, (part, name) in enumerate(pairs):
-        two = f"{mark}{numbers[part]}", name
-        for way, (given, wanted) in enumerate((two, two[::-1])):
-            lines.append(f"fun {mark}{count}_{way} (val x as {given}) : {wanted} = x")
+    for number, (part, name) in enumerate(pairs):
+        for way, given, wanted in (("a", parts[part], name), ("b", name, parts[part])):
+            lines.append(f"fun {mark}{number}{way} (val x as {given}) : {wanted} = x")
     text = "\n".join(lines)
     if not pairs or len(text) > LONGEST:
         return {}
     status, output = ask("check", text)
     wrong = {int(it) for it in re.findall(r"^(\d+):\d+: fault 14: ", output, re.M)}
     if status not in (0, 1) or len(wrong) < output.count(": fault "):
-        return {}
+        raise Unanswered
     found = {}
-    for count, (part, name) in enumerate(pairs):
-        if not wrong & {first + 2 * count, first + 2 * count + 1}:
+    for number, (part, name) in enumerate(pairs):
+        if wrong.isdisjoint((first + 2 * number, first + 2 * number + 1)):
             found.setdefault(part, ("name", name))
     return found
 
