@@ -54,7 +54,7 @@ _xduce() {
 # The scripts: their options, types of the file that is their first word, and else files.
 _xduce_script() {
     local word=${COMP_WORDS[COMP_CWORD]} script=${COMP_WORDS[0]##*/xduce-} file='' place=0 option='' each
-    local options='dtd:--elements explain:--cost explain:--seconds= explain:--places= format:--check format:--flat format:--write join:--places= lint:--places= where:--all where:--places= xml:--types= xml:--dtd= xml:--places='
+    local options='dtd:--elements explain:--cost explain:--seconds= explain:--places= format:--check format:--flat format:--write join:--places= language-server:--stdio lint:--places= where:--all where:--places= xml:--types= xml:--dtd= xml:--places='
     script=${script#xduce-}
     COMPREPLY=()
     if [[ $word == -* ]]; then
@@ -89,4 +89,4 @@ _xduce_script() {
 }
 
 complete -F _xduce xduce ./xduce
-complete -F _xduce_script xduce-check-proof xduce-dtd xduce-expand xduce-explain xduce-format xduce-join xduce-lint xduce-rng xduce-validate xduce-versions xduce-where xduce-xml
+complete -F _xduce_script xduce-check-proof xduce-dtd xduce-expand xduce-explain xduce-format xduce-join xduce-language-server xduce-lint xduce-rng xduce-validate xduce-versions xduce-where xduce-xml
