@@ -17,6 +17,8 @@ VARIABLE = re.compile(r"(\d+):(\d+): variable (\w+) as (.*)")
 # schema as DocBook an answer takes too long for what it tells.
 PLAIN = (EMPTY, ("name", "Any"), ("text", notation.ALL))
 LONGEST = 150_000
+# What means the same, by a program's types and by what is shown.
+KEPT, MOST_KEPT = {}, 1024
 
 
 def blocks(output):
@@ -154,10 +156,19 @@ def singles(type_):
     return []
 
 
-@functools.lru_cache(maxsize=1024)
 def same_types(types, shown, ask):
     """By each part of shown definitions the declared type that means the same: the first one of the
-    text."""
+    text. Answers are kept, whoever asked."""
+    if (types, shown) not in KEPT:
+        found = asked_types(types, shown, ask)
+        if len(KEPT) >= MOST_KEPT:
+            KEPT.clear()
+        KEPT[types, shown] = found
+    return KEPT[types, shown]
+
+
+def asked_types(types, shown, ask):
+    """The same, by a question to the program."""
     pairs, mark = candidates(declared(types), shown), fresh(types + shown)
     parts = {part: f"{mark}{number}" for number, part in enumerate(dict(pairs))}
     lines = [*types.split("\n"), *shown.split("\n")]
