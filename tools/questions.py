@@ -1,5 +1,6 @@
 """Questions to the command that can be ended, for who goes on while they are asked."""
 import collections
+import contextlib
 import hashlib
 import os
 import shutil
@@ -22,21 +23,26 @@ class Answers:
 
     def __init__(self):
         self.folder, self.kept, self.lock = None, collections.OrderedDict(), threading.Lock()
-        self.count, self.size = 0, 0
+        self.count, self.is_closed = 0, False
 
     def close(self):
-        if self.folder:
-            shutil.rmtree(self.folder, ignore_errors=True)
+        """Removes the folder. What is asked from here on is ended."""
+        with self.lock:
+            self.is_closed = True
+            if self.folder:
+                shutil.rmtree(self.folder, ignore_errors=True)
 
     def file(self, data):
         """The path of a new file of these bytes, which is the asker's to remove."""
         with self.lock:
+            if self.is_closed:
+                raise Ended
             if not self.folder:
                 self.folder = tempfile.mkdtemp(prefix="xduce-")
             self.count += 1
             path = f"{self.folder}/{self.count}"
-        with open(path, "wb") as file:
-            file.write(data)
+            with open(path, "wb") as file:
+                file.write(data)
         return path
 
     def known(self, key):
@@ -104,7 +110,8 @@ class Task:
             return self.run(shared.program(), command, files[0], *words)
         finally:
             for path in files:
-                if os.path.exists(path):
+                # (who closes the answers removes them all)
+                with contextlib.suppress(FileNotFoundError):
                     os.unlink(path)
 
     def run(self, *words):
