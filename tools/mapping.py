@@ -163,6 +163,20 @@ class Content:
         self.has_text = all(map(rules.has_text, types))
         classes = [it for type_ in types for it in rules.texts(type_)]
         self.is_listed = bool(classes) and not any(map(is_open, classes))
+        self.named = {it for names, is_except in classes if not is_except for it in names}
+        self.longest = max(map(len, self.named), default=0)
+
+    def text(self, text):
+        """A whole text as the types name it: white space around it and between its words doesn't
+        count where all texts are named, or where this one is."""
+        if not self.named:
+            return text
+        plain = collapsed(text)
+        return plain if self.is_listed or plain in self.named else text
+
+    def may_be_named(self, text):
+        """Whether a text, or what begins with it, may be one that is named."""
+        return self.is_listed or bool(self.named) and len(collapsed(text)) <= self.longest
 
     def inside(self, label):
         """What is known of the content where an element with this label stands in it, and the content of that element."""
@@ -177,6 +191,11 @@ class Content:
             here = self.rules.content(tuple(having)) if having and len(having) < len(self.types) else self
             self.known[label] = here, self.rules.content(tuple(found))
         return self.known[label]
+
+
+def collapsed(text):
+    """The words of a text, with one space between."""
+    return " ".join(re.findall(r"[^ \t\r\n]+", text))
 
 
 def is_open(class_):

@@ -210,9 +210,10 @@ class Expansion:
 
     def definition(self, state, base):
         stars = [it for it in state[1] if self.meaning.repeated(it) is not None]
+        repeated = {tuple(head[:3]) for it in stars for head in self.meaning.heads(it)}
         rows = []
         for kind, class_, content, rest in self.meaning.heads(state):
-            if stars and rest == state:
+            if rest == state and (kind, class_, content) in repeated:
                 continue
             item = (kind, class_) if kind == "text" else self.item((kind, class_, content), base)
             rows.append(joined("seq", (item, self.interleaving(rest, base))))
