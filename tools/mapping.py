@@ -1,7 +1,8 @@
-"""How XML is written as documents of the notation, for the scripts beside this file; docs/xml.md is the standard.
+"""How XML is written as documents of the notation; docs/xml.md is the standard.
 
-A name is a label: each character but a letter or a digit of ASCII is its code in hexadecimal between two `_`. A prefix of the
-table and `__` stand before the label of a name in a namespace, and `__` before that of an attribute.
+A name is a label: each character but a letter or a digit of ASCII is its code in hexadecimal
+between two `_`. A prefix of the table and `__` stand before the label of a name in a namespace, and
+`__` before that of an attribute.
 """
 import os
 import re
@@ -19,12 +20,18 @@ PREFIX = r"[A-Za-z][A-Za-z0-9]*"
 # So many labels are kept of those that a content has.
 MOST_KNOWN = 10_000
 LABEL = re.compile(rf"(__)?(?:({PREFIX})__)?((?:[A-Za-z0-9]|_[1-9a-f][0-9a-f]*_)+)", re.A)
-START = ("A-Z_a-z\xc0-\xd6\xd8-\xf6\xf8-\u02ff\u0370-\u037d\u037f-\u1fff\u200c-\u200d\u2070-\u218f\u2c00-\u2fef\u3001-\ud7ff"
-         "\uf900-\ufdcf\ufdf0-\ufffd\U00010000-\U000effff")
+START = (
+    "A-Z_a-z\xc0-\xd6\xd8-\xf6\xf8-\u02ff\u0370-\u037d\u037f-\u1fff\u200c-\u200d"
+    "\u2070-\u218f\u2c00-\u2fef\u3001-\ud7ff"
+    "\uf900-\ufdcf\ufdf0-\ufffd\U00010000-\U000effff"
+)
 NAME = re.compile(f"[{START}][-.0-9\xb7\u0300-\u036f\u203f-\u2040{START}]*")
 # What XML 1.0 has no way to write.
 NO_CHARACTER = re.compile("[\0-\x08\x0b\x0c\x0e-\x1f\ud800-\udfff\ufffe\uffff]")
-TABLE = re.compile(rf'\(\*[ \t\r\n]*namespace(?:[ \t\r\n]+({PREFIX}))?[ \t\r\n]+"((?:[^"\\]|\\.)*)"[ \t\r\n]*\*\)', re.S)
+TABLE = re.compile(
+    rf'\(\*[ \t\r\n]*namespace(?:[ \t\r\n]+({PREFIX}))?[ \t\r\n]+"((?:[^"\\]|\\.)*)"[ \t\r\n]*\*\)',
+    re.S,
+)
 HEAD = re.compile(r"(?:[ \t\r\n]+|\(\*.*?\*\))*", re.S)
 
 
@@ -72,7 +79,8 @@ def from_comment(text):
 
 
 class Table:
-    """The prefixes of namespaces. The empty one is the default's: that of names without a namespace, where it has no other."""
+    """The prefixes of namespaces. The empty one is the default's: that of names without a
+    namespace, where it has no other."""
 
     def __init__(self, pairs=()):
         self.names, self.prefixes, self.last = {"xml": XML, "": ""}, {XML: "xml", "": ""}, 0
@@ -80,13 +88,20 @@ class Table:
             self.add(prefix, name)
 
     def add(self, prefix, name):
-        """One more line of the table. A namespace keeps its first prefix, and a prefix its namespace; only the empty one is free."""
+        """One more line of the table. A namespace keeps its first prefix, and a prefix its
+        namespace; only the empty one is free."""
         if self.names.get(prefix) == name:
             return
         if prefix in self.names and (prefix or self.names[""]):
-            raise Unmapped(f"the prefix {prefix or 'that is empty'} has two namespaces: {self.names[prefix]} and {name}")
+            raise Unmapped(
+                f"the prefix {prefix or 'that is empty'} has two namespaces: {self.names[prefix]} "
+                f"and {name}"
+            )
         if name in self.prefixes and (name or self.prefixes[""]):
-            raise Unmapped(f"the namespace {name or 'that is none'} has two prefixes: {self.prefixes[name]} and {prefix}")
+            raise Unmapped(
+                f"the namespace {name or 'that is none'} has two prefixes: {self.prefixes[name]} "
+                f"and {prefix}"
+            )
         if not prefix:
             del self.prefixes[""]
         self.names[prefix], self.prefixes[name] = name, prefix
@@ -117,23 +132,32 @@ class Table:
             raise Unmapped(f"the prefix {prefix} of {label} stands in no table of namespaces")
         name = "" if is_attribute and not prefix else self.names[prefix]
         if is_attribute and prefix and not name:
-            raise Unmapped(f"{label} is the label of no attribute: one without a namespace has no prefix")
+            raise Unmapped(
+                f"{label} is the label of no attribute: one without a namespace has no prefix"
+            )
         return is_attribute, name, plain(found[3])
 
     def lines(self):
         """The table, as it stands at the head of types."""
-        own = [(prefix, name) for prefix, name in self.names.items() if prefix != "xml" and (prefix or name)]
+        own = [
+            (prefix, name)
+            for prefix, name in self.names.items()
+            if prefix != "xml" and (prefix or name)
+        ]
         return "".join(line_of(prefix, name) + "\n" for prefix, name in own)
 
 
 def line_of(prefix, name):
-    return f"(* namespace {prefix + ' ' if prefix else ''}{quoted(name).replace('*)', '*' + chr(92) + ')')} *)"
+    text = quoted(name).replace("*)", "*\\)")
+    return f"(* namespace {prefix + ' ' if prefix else ''}{text} *)"
 
 
 def table_line(comment):
     """The prefix and the namespace that a comment tells, if it is a line of the table."""
     found = TABLE.fullmatch(comment)
-    unquoted = lambda text: re.sub(r"\\(.)", lambda it: {"n": "\n", "t": "\t"}.get(it[1], it[1]), text, flags=re.S)
+    unquoted = lambda text: re.sub(
+        r"\\(.)", lambda it: {"n": "\n", "t": "\t"}.get(it[1], it[1]), text, flags=re.S
+    )
     return (found[1] or "", unquoted(found[2])) if found else None
 
 
@@ -143,7 +167,8 @@ def table_of(text):
 
 
 def is_attribute(class_):
-    """Whether a class of labels is of attributes: all begin with `__`, or all labels but some are meant, and `_` is one of these."""
+    """Whether a class of labels is of attributes: all begin with `__`, or all labels but some are
+    meant, and `_` is one of these."""
     names, is_except = class_
     return "_" in names if is_except else all(name.startswith("__") for name in names)
 
@@ -179,16 +204,25 @@ class Content:
         return self.is_listed or bool(self.named) and len(collapsed(text)) <= self.longest
 
     def inside(self, label):
-        """What is known of the content where an element with this label stands in it, and the content of that element."""
+        """What is known of the content where an element with this label stands in it, and the
+        content of that element."""
         if label not in self.known:
             if len(self.known) > MOST_KNOWN:
                 self.known.clear()
             found, having = {}, []
             for type_ in self.types:
-                its = [content for class_, content in self.rules.elements(type_) if shared.types.has(class_, label)]
+                its = [
+                    content
+                    for class_, content in self.rules.elements(type_)
+                    if shared.types.has(class_, label)
+                ]
                 found.update(dict.fromkeys(its))
                 having += [type_] if its else []
-            here = self.rules.content(tuple(having)) if having and len(having) < len(self.types) else self
+            here = (
+                self.rules.content(tuple(having))
+                if having and len(having) < len(self.types)
+                else self
+            )
             self.known[label] = here, self.rules.content(tuple(found))
         return self.known[label]
 
@@ -209,7 +243,12 @@ class Rules:
 
     def __init__(self, text):
         found = notation.definitions(text)
-        self.meaning, self.contents, self.reached, self.mixed = shared.types.Meaning(found), {}, {}, {}
+        self.meaning, self.contents, self.reached, self.mixed = (
+            shared.types.Meaning(found),
+            {},
+            {},
+            {},
+        )
         self.start = Content(self, tuple(("name", name) for name in found if name != "Any"))
 
     def content(self, types):
@@ -218,7 +257,8 @@ class Rules:
         return self.contents[types]
 
     def states(self, type_):
-        """The types of what may be left of a content, each with whether an element stands right before it, or nothing."""
+        """The types of what may be left of a content, each with whether an element stands right
+        before it, or nothing."""
         if type_ not in self.reached:
             found, waiting = {type_: True}, [type_]
             for state in waiting:
@@ -231,10 +271,16 @@ class Rules:
 
     def elements(self, type_):
         """The classes of labels that a content has, each with the content of such an element."""
-        return dict.fromkeys((class_, content) for state in self.states(type_) for kind, class_, content, _ in self.meaning.heads(state) if kind == "elem")
+        return dict.fromkeys(
+            (class_, content)
+            for state in self.states(type_)
+            for kind, class_, content, _ in self.meaning.heads(state)
+            if kind == "elem"
+        )
 
     def is_mixed(self, type_):
-        """Whether a text may stand at each place between the items, and changes nothing of what may follow."""
+        """Whether a text may stand at each place between the items, and changes nothing of what may
+        follow."""
         if type_ not in self.mixed:
             places = [state for state, is_place in self.states(type_).items() if is_place]
             self.mixed[type_] = self.has_text(type_) and all(map(self.takes_text, places))
@@ -251,7 +297,9 @@ class Rules:
     def takes_text(self, state):
         heads = self.meaning.heads(state)
         items = [head for head in heads if head[0] == "elem" and not is_attribute(head[1])]
-        rests = [rest for kind, class_, _, rest in heads if kind == "text" and class_ == notation.ALL]
+        rests = [
+            rest for kind, class_, _, rest in heads if kind == "text" and class_ == notation.ALL
+        ]
         if self.meaning.can_be_empty(state) and not any(map(self.meaning.can_be_empty, rests)):
             return False
         behind = {tuple(head) for rest in rests for head in self.meaning.heads(rest)}
@@ -259,8 +307,8 @@ class Rules:
 
 
 def local(base, system, public=None):
-    """The file here that an identifier of a DTD means, as it stands in the file `base`, or as the catalogs of this machine say; None
-    where there is none."""
+    """The file here that an identifier of a DTD means, as it stands in the file `base`, or as the
+    catalogs of this machine say; None where there is none."""
     if system and not re.match("[A-Za-z][A-Za-z0-9+.-]+:", system):
         path = os.path.join(os.path.dirname(base), urllib.parse.unquote(system))
         if os.path.isfile(path):
@@ -270,7 +318,11 @@ def local(base, system, public=None):
         return path if os.path.isfile(path) else None
     for name in (public, system):
         if name and shutil.which("xmlcatalog") and os.path.exists("/etc/xml/catalog"):
-            ran = subprocess.run(["xmlcatalog", "/etc/xml/catalog", name], stdout=subprocess.PIPE, stderr=subprocess.DEVNULL)
+            ran = subprocess.run(
+                ["xmlcatalog", "/etc/xml/catalog", name],
+                stdout=subprocess.PIPE,
+                stderr=subprocess.DEVNULL,
+            )
             found = ran.stdout.decode(errors="replace").strip()
             if ran.returncode == 0 and found.startswith(("file:", "/")):
                 return local(base, found if found.startswith("file:") else f"file://{found}")
@@ -290,7 +342,11 @@ class Places:
 
     def name_of(self, source):
         """What comes was made of this file."""
-        name = source if source == "-" or os.path.isabs(source) else os.path.relpath(source, self.folder)
+        name = (
+            source
+            if source == "-" or os.path.isabs(source)
+            else os.path.relpath(source, self.folder)
+        )
         self.write("file " + name.replace("\\", "\\\\").replace("\n", "\\n") + "\n")
 
     def end(self, size):
@@ -307,7 +363,13 @@ def fail(text, status=shared.USAGE):
 
 def with_namespaces(words):
     """The option that gives prefixes of the table."""
-    words.add_argument("--namespace", metavar="PREFIX=NAME", action="append", default=[], help="a prefix of the table; =NAME the empty one")
+    words.add_argument(
+        "--namespace",
+        metavar="PREFIX=NAME",
+        action="append",
+        default=[],
+        help="a prefix of the table; =NAME the empty one",
+    )
 
 
 def named(given):

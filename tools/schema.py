@@ -1,10 +1,13 @@
-"""Types of schemas that were written elsewhere, for tools/rng and tools/dtd: patterns as RELAX NG has them, and the types that they are.
+"""Types of schemas that were written elsewhere, for tools/rng and tools/dtd: patterns as RELAX NG
+has them, and the types that they are.
 
-A pattern is a tuple: ("empty",), ("none",), ("text",), ("choice", patterns), ("group", patterns), ("interleave", patterns),
-("more", pattern) for one or more, ("element", names, pattern), ("attribute", names, pattern), ("ref", definition),
-("value", text), ("data", its name, whether it may be empty) or ("list", pattern). A class of names is ("name", namespace, local
-name), ("any", classes that aren't meant), ("all", namespace, classes that aren't meant) or ("or", classes). Attributes become
-elements in front of the content, in the order of their labels, as docs/xml.md says.
+A pattern is a tuple: ("empty",), ("none",), ("text",), ("choice", patterns), ("group", patterns),
+("interleave", patterns), ("more", pattern) for one or more, ("element", names, pattern),
+("attribute", names, pattern), ("ref", definition), ("value", text), ("data", its name, whether it
+may be empty) or ("list", pattern). A class of names is ("name", namespace, local name), ("any",
+classes that aren't meant), ("all", namespace, classes that aren't meant) or ("or", classes).
+Attributes become elements in front of the content, in the order of their labels, as docs/xml.md
+says.
 """
 import re
 import sys
@@ -15,7 +18,8 @@ import shared
 
 types = shared.types
 NOTHING, TEXT = notation.EMPTY, ("text", notation.ALL)
-# A program has so many bytes at most; so many names are made of one interleaving, so many choices of attributes.
+# A program has so many bytes at most; so many names are made of one interleaving, so many choices
+# of attributes.
 LONGEST, MOST_NAMES, MOST_CHOICES = 1 << 20, 4096, 512
 WIDTH = 100
 
@@ -40,12 +44,23 @@ def choice(patterns):
     for pattern in patterns:
         found.update(dict.fromkeys(pattern[1] if pattern[0] == "choice" else [pattern]))
     found.pop(("none",), None)
-    return ("none",) if not found else next(iter(found)) if len(found) == 1 else ("choice", tuple(found))
+    return (
+        ("none",)
+        if not found
+        else next(iter(found))
+        if len(found) == 1
+        else ("choice", tuple(found))
+    )
 
 
 def several(kind, patterns):
     """A group or an interleaving."""
-    found = [inner for pattern in patterns for inner in (pattern[1] if pattern[0] == kind else [pattern]) if inner != ("empty",)]
+    found = [
+        inner
+        for pattern in patterns
+        for inner in (pattern[1] if pattern[0] == kind else [pattern])
+        if inner != ("empty",)
+    ]
     if ("none",) in found:
         return ("none",)
     return ("empty",) if not found else found[0] if len(found) == 1 else (kind, tuple(found))
@@ -70,7 +85,9 @@ def rebuilt(pattern, leaf):
         return more(rebuilt(pattern[1], leaf))
     if kind in ("element", "attribute"):
         inner = rebuilt(pattern[2], leaf)
-        return ("none",) if kind == "attribute" and inner == ("none",) else (kind, pattern[1], inner)
+        return (
+            ("none",) if kind == "attribute" and inner == ("none",) else (kind, pattern[1], inner)
+        )
     return leaf(pattern)
 
 
@@ -93,14 +110,19 @@ def names_of(names):
 
 
 class Interleaved(types.Meaning):
-    """The meaning of types that may have ("&", types): items in any order that keeps the order of each of the types."""
+    """The meaning of types that may have ("&", types): items in any order that keeps the order of
+    each of the types."""
 
     def __init__(self, found):
         self.ranks = {}
         super().__init__(found)
 
     def can_be_empty(self, type_):
-        return all(map(self.can_be_empty, type_[1])) if type_[0] == "&" else super().can_be_empty(type_)
+        return (
+            all(map(self.can_be_empty, type_[1]))
+            if type_[0] == "&"
+            else super().can_be_empty(type_)
+        )
 
     def listed(self, type_):
         if type_[0] != "&":
@@ -108,7 +130,7 @@ class Interleaved(types.Meaning):
             return
         for number, part in enumerate(type_[1]):
             for *head, rest in self.heads(part):
-                yield (*head, self.interleaved((*type_[1][:number], rest, *type_[1][number + 1:])))
+                yield (*head, self.interleaved((*type_[1][:number], rest, *type_[1][number + 1 :])))
 
     def repeated(self, type_):
         """The items that a type repeats, if it is a repetition of single items; else None."""
@@ -133,12 +155,19 @@ class Interleaved(types.Meaning):
     def flat(self, type_, seen=()):
         if type_[0] == "name" and self.found[type_[1]][0] == "&":
             if type_[1] in seen:
-                raise notation.Malformed(f"type {type_[1]} comes back to itself with no item before it")
+                raise notation.Malformed(
+                    f"type {type_[1]} comes back to itself with no item before it"
+                )
             return self.flat(self.found[type_[1]], (*seen, type_[1]))
-        return [inner for it in type_[1] for inner in self.flat(it, seen)] if type_[0] == "&" else [type_]
+        return (
+            [inner for it in type_[1] for inner in self.flat(it, seen)]
+            if type_[0] == "&"
+            else [type_]
+        )
 
     def interleaved(self, parts):
-        """An interleaving in a form that equal ones share: what is repeated stands first, as one repetition."""
+        """An interleaving in a form that equal ones share: what is repeated stands first, as one
+        repetition."""
         stars, others = {}, []
         for part in (inner for it in parts for inner in self.flat(it)):
             items = self.repeated(part)
@@ -152,18 +181,23 @@ class Interleaved(types.Meaning):
 
 
 class Expansion:
-    """Writes out the interleavings of definitions, with a name for each that is left after some of the items."""
+    """Writes out the interleavings of definitions, with a name for each that is left after some of
+    the items."""
 
     def __init__(self, found, tell):
         self.found, self.tell = dict(found), tell
         self.meaning = Interleaved({"Any": notation.ANY, **found})
         # Elements that have a name already.
-        self.declared = {body: name for name, body in reversed(list(found.items())) if body[0] == "elem"}
-        # Names of what is left, and of items; definitions that aren't told yet; how often a name was wanted.
+        self.declared = {
+            body: name for name, body in reversed(list(found.items())) if body[0] == "elem"
+        }
+        # Names of what is left, and of items; definitions that aren't told yet; how often a name
+        # was wanted.
         self.made, self.more, self.count, self.taken = {}, {}, {}, set()
 
     def all(self):
-        """The definitions without interleavings, with those that were made behind the one that wants them."""
+        """The definitions without interleavings, with those that were made behind the one that
+        wants them."""
         expanded = {}
         for name, body in list(self.found.items()):
             expanded[name] = self.plain(body, name)
@@ -192,20 +226,32 @@ class Expansion:
         return "name", self.made[state]
 
     def states(self, start, base):
-        """What may be left of an interleaving, where it has no name yet; its size is told, and what is too much refused."""
+        """What may be left of an interleaving, where it has no name yet; its size is told, and what
+        is too much refused."""
         found, size = {start: None}, 0
         waiting = [start]
         for state in waiting:
             heads = self.meaning.heads(state)
-            size += sum(len(types.text_of((*head[:2], NOTHING)[:3 if head[0] == "elem" else 2])) + len(base) + 8 for head in heads)
+            size += sum(
+                len(types.text_of((*head[:2], NOTHING)[: 3 if head[0] == "elem" else 2]))
+                + len(base)
+                + 8
+                for head in heads
+            )
             for *_, rest in heads:
                 if rest[0] == "&" and rest not in found and rest not in self.made:
                     found[rest] = None
                     waiting.append(rest)
             if len(found) > MOST_NAMES or size > LONGEST:
-                raise TooLong(f"{base}: an interleaving of {len(start[1])} parts makes more than {len(found) - 1:,} names, {size:,} characters: it isn't written out")
+                raise TooLong(
+                    f"{base}: an interleaving of {len(start[1])} parts makes more than "
+                    f"{len(found) - 1:,} names, {size:,} characters: it isn't written out"
+                )
         if len(found) > 2:
-            self.tell(f"{base}: an interleaving of {len(start[1])} parts makes {len(found):,} names, some {size:,} characters")
+            self.tell(
+                f"{base}: an interleaving of {len(start[1])} parts makes {len(found):,} names, "
+                f"some {size:,} characters"
+            )
         return found
 
     def definition(self, state, base):
@@ -281,8 +327,13 @@ class Schema:
         self.table = mapping.Table(given)
         self.inexact, self.names, self.types, self.contents = {}, {}, {}, {}
         self.simplify()
-        self.attributed = self.closure(lambda pattern: pattern[0] == "attribute", lambda pattern: pattern[0] != "element")
-        self.textual = self.closure(lambda pattern: pattern[0] == "text", lambda pattern: pattern[0] not in ("element", "attribute"))
+        self.attributed = self.closure(
+            lambda pattern: pattern[0] == "attribute", lambda pattern: pattern[0] != "element"
+        )
+        self.textual = self.closure(
+            lambda pattern: pattern[0] == "text",
+            lambda pattern: pattern[0] not in ("element", "attribute"),
+        )
         self.bind(prefixes)
 
     def tell(self, where, what):
@@ -296,7 +347,11 @@ class Schema:
         while True:
             self.defined = {name: rebuilt(pattern, leaf) for name, pattern in self.defined.items()}
             self.start = rebuilt(self.start, leaf)
-            found = {name: pattern for name, pattern in self.defined.items() if pattern in (("none",), ("empty",))}
+            found = {
+                name: pattern
+                for name, pattern in self.defined.items()
+                if pattern in (("none",), ("empty",))
+            }
             if found == plain:
                 break
             plain = found
@@ -312,22 +367,35 @@ class Schema:
 
     def closure(self, is_found, goes_into):
         """The definitions that have such a pattern, in themselves or by others."""
+
         def has(pattern):
-            return is_found(pattern) or pattern[0] == "ref" and pattern[1] in found or goes_into(pattern) and any(map(has, inside(pattern)))
+            return (
+                is_found(pattern)
+                or pattern[0] == "ref"
+                and pattern[1] in found
+                or goes_into(pattern)
+                and any(map(has, inside(pattern)))
+            )
+
         found, count = set(), -1
         while len(found) != count:
             count = len(found)
-            found |= {name for name, pattern in self.defined.items() if name not in found and has(pattern)}
+            found |= {
+                name for name, pattern in self.defined.items() if name not in found and has(pattern)
+            }
         return found
 
     def has(self, pattern, names, kind):
         """Whether a pattern has one of this kind outside of elements."""
         if pattern[0] == kind or pattern[0] == "ref" and pattern[1] in names:
             return True
-        return pattern[0] not in ("element", "attribute") and any(self.has(it, names, kind) for it in inside(pattern))
+        return pattern[0] not in ("element", "attribute") and any(
+            self.has(it, names, kind) for it in inside(pattern)
+        )
 
     def bind(self, prefixes):
-        """Gives each namespace a prefix: the schema's own; none to that of most elements, if none of them is without a namespace."""
+        """Gives each namespace a prefix: the schema's own; none to that of most elements, if none
+        of them is without a namespace."""
         elements, attributes = {}, {}
         waiting = [self.start, *self.defined.values()]
         for pattern in waiting:
@@ -342,17 +410,35 @@ class Schema:
             if main not in self.table.prefixes:
                 self.table.add("", main)
         for name in sorted({*elements, *attributes} - {"", mapping.XML}):
-            if name not in self.table.prefixes or name == self.table.names[""] and name in attributes:
-                wanted = re.sub("[^A-Za-z0-9]", "", next((prefix for prefix, its in prefixes.items() if its == name and prefix), "")).lstrip("0123456789")
+            if (
+                name not in self.table.prefixes
+                or name == self.table.names[""]
+                and name in attributes
+            ):
+                wanted = re.sub(
+                    "[^A-Za-z0-9]",
+                    "",
+                    next(
+                        (prefix for prefix, its in prefixes.items() if its == name and prefix), ""
+                    ),
+                ).lstrip("0123456789")
                 if name in self.table.prefixes:
                     # Attributes want a prefix of their own, so the namespace isn't the default's.
-                    self.table = mapping.Table([pair for pair in self.table.names.items() if pair[0] not in ("", "xml")])
+                    self.table = mapping.Table(
+                        [pair for pair in self.table.names.items() if pair[0] not in ("", "xml")]
+                    )
                 if wanted and wanted not in self.table.names:
                     self.table.add(wanted, name)
                 else:
                     self.table.prefix_of(name)
-        self.labels = {self.table.element(*it) for it in ((name, local) for name, them in elements.items() for local in them)}
-        self.attribute_labels = {self.table.attribute(*it) for it in ((name, local) for name, them in attributes.items() for local in them)}
+        self.labels = {
+            self.table.element(*it)
+            for it in ((name, local) for name, them in elements.items() for local in them)
+        }
+        self.attribute_labels = {
+            self.table.attribute(*it)
+            for it in ((name, local) for name, them in attributes.items() for local in them)
+        }
         self.known = elements
 
     # Classes of labels.
@@ -367,12 +453,25 @@ class Schema:
             if all(not is_except for _, is_except in found):
                 return class_of([it for some, _ in found for it in some], False)
             excepted = set.intersection(*(set(some) for some, is_except in found if is_except))
-            return class_of(excepted - {it for some, is_except in found if not is_except for it in some}, True)
+            return class_of(
+                excepted - {it for some, is_except in found if not is_except for it in some}, True
+            )
         excepted = {label for it in names[-1] for label in self.excepted(it, where)}
         if kind == "all":
-            excepted |= {self.table.element(name, local) for name, them in self.known.items() if name != names[1] for local in them}
-            self.tell(where, f"any name of the namespace {names[1] or 'that is none'} is any name that the schema hasn't in another one")
-        self.tell(where, "an element of any name may also be an attribute that the schema doesn't name")
+            excepted |= {
+                self.table.element(name, local)
+                for name, them in self.known.items()
+                if name != names[1]
+                for local in them
+            }
+            self.tell(
+                where,
+                f"any name of the namespace {names[1] or 'that is none'} is any name that the "
+                "schema hasn't in another one",
+            )
+        self.tell(
+            where, "an element of any name may also be an attribute that the schema doesn't name"
+        )
         return class_of(excepted | self.attribute_labels, True)
 
     def excepted(self, names, where):
@@ -381,7 +480,11 @@ class Schema:
         if names[0] == "or":
             return [label for it in names[1] for label in self.excepted(it, where)]
         if names[0] == "all":
-            self.tell(where, f"of the namespace {names[1] or 'that is none'} only the names that the schema has are excepted")
+            self.tell(
+                where,
+                f"of the namespace {names[1] or 'that is none'} only the names that the schema has "
+                "are excepted",
+            )
             known = self.known.get(names[1], ())
             return [self.table.element(names[1], local) for local in known]
         return []
@@ -389,8 +492,9 @@ class Schema:
     # Attributes.
 
     def alternatives(self, pattern, where):
-        """The attributes that a pattern may have, each time with the content beside them: a dictionary from labels to a class of
-        texts and whether it may be left out, the classes of further attributes, and the pattern that is left."""
+        """The attributes that a pattern may have, each time with the content beside them: a
+        dictionary from labels to a class of texts and whether it may be left out, the classes of
+        further attributes, and the pattern that is left."""
         kind = pattern[0]
         if kind == "ref" and pattern[1] in self.attributed:
             return self.alternatives(self.defined[pattern[1]], where)
@@ -402,35 +506,57 @@ class Schema:
             found = [({}, (), ("empty",))]
             for part in pattern[1]:
                 its = self.alternatives(part, where)
-                found = self.merged([self.both(kind, one, two) for one in found for two in its], where)
+                found = self.merged(
+                    [self.both(kind, one, two) for one in found for two in its], where
+                )
             return found
         if kind == "choice":
             may_lack = ("empty",) in pattern[1]
-            found = [self.repeated(it[1], where, True) if it[0] == "more" and may_lack else self.alternatives(it, where) for it in pattern[1]]
+            found = [
+                self.repeated(it[1], where, True)
+                if it[0] == "more" and may_lack
+                else self.alternatives(it, where)
+                for it in pattern[1]
+            ]
             return self.merged([it for its in found for it in its], where)
         return self.repeated(pattern[1], where, False)
 
     def attribute(self, pattern, where):
         names, text = pattern[1], self.text_of(pattern[2], where)
         if names[0] == "or":
-            return self.merged([it for one in names[1] for it in self.attribute(("attribute", one, pattern[2]), where)], where)
+            return self.merged(
+                [
+                    it
+                    for one in names[1]
+                    for it in self.attribute(("attribute", one, pattern[2]), where)
+                ],
+                where,
+            )
         if names[0] == "name":
             label = self.table.attribute(*names[1:])
             return [({label: (text, False)}, (), ("empty",))]
         excepted = {self.table.attribute(*it) for inner in names[-1] for it in names_of(inner)}
-        self.tell(where, "an attribute of any name may also be an element with a text that the schema doesn't name")
+        self.tell(
+            where,
+            "an attribute of any name may also be an element with a text that the schema doesn't "
+            "name",
+        )
         if names[0] == "all" or any(it[0] != "name" for it in names[-1]):
             self.tell(where, "which namespace attributes of any name are of isn't told")
         return [({}, (("elem", class_of(excepted | self.labels | {"_"}, True), text),), ("empty",))]
 
     def repeated(self, pattern, where, may_lack):
-        """The alternatives of a repetition that has attributes: those of any name as often as they like, others once at most."""
+        """The alternatives of a repetition that has attributes: those of any name as often as they
+        like, others once at most."""
         found = self.alternatives(pattern, where)
         slots, wild, contents = {}, (), []
         for its, more_wild, content in found:
             wild = tuple(dict.fromkeys((*wild, *more_wild)))
             for label, (text, _) in its.items():
-                slots[label] = (self.either(slots[label][0], text) if label in slots else text, True)
+                slots[label] = (
+                    self.either(slots[label][0], text) if label in slots else text,
+                    True,
+                )
             contents.append(content)
         if not may_lack:
             self.tell(where, "attributes in a repetition may all lack")
@@ -438,7 +564,17 @@ class Schema:
 
     @staticmethod
     def either(one, two):
-        return joined("alt", tuple(dict.fromkeys([*(one[1] if one[0] == "alt" else [one]), *(two[1] if two[0] == "alt" else [two])])))
+        return joined(
+            "alt",
+            tuple(
+                dict.fromkeys(
+                    [
+                        *(one[1] if one[0] == "alt" else [one]),
+                        *(two[1] if two[0] == "alt" else [two]),
+                    ]
+                )
+            ),
+        )
 
     def both(self, kind, one, two):
         wild = tuple(dict.fromkeys((*one[1], *two[1])))
@@ -456,7 +592,10 @@ class Schema:
                 it = self.one_of(other, it)
             merged.append(it)
         if len(merged) > MOST_CHOICES:
-            raise TooLong(f"{where}: attributes and content go together in {len(merged):,} ways, more than {MOST_CHOICES:,}")
+            raise TooLong(
+                f"{where}: attributes and content go together in {len(merged):,} ways, more than "
+                f"{MOST_CHOICES:,}"
+            )
         return merged
 
     def one_of(self, one, two):
@@ -523,7 +662,8 @@ class Schema:
         return self.names[definition]
 
     def content(self, pattern, where, is_mixed=False):
-        """The type of a pattern without attributes. In an interleaving a text may be interrupted, so it stands there in pieces."""
+        """The type of a pattern without attributes. In an interleaving a text may be interrupted,
+        so it stands there in pieces."""
         kind = pattern[0]
         if kind == "empty":
             return NOTHING
@@ -569,7 +709,9 @@ class Schema:
             return ("*" if type_[0] != sign else sign), type_[1]
         if sign != "?" and type_[0] == "alt":
             inner = [it[1] if it[0] in ("?", "*") else it for it in type_[1]]
-            return ("*" if any(it[0] in ("?", "*") for it in type_[1]) else sign), joined("alt", tuple(inner))
+            return ("*" if any(it[0] in ("?", "*") for it in type_[1]) else sign), joined(
+                "alt", tuple(inner)
+            )
         return (sign, type_) if type_ != NOTHING else NOTHING
 
     def element(self, pattern, where):
@@ -580,7 +722,11 @@ class Schema:
         found = []
         for content, its in rows.items():
             front = "row", joined("alt", tuple(dict.fromkeys(its)))
-            found.append(joined("seq", (front if front[1] != NOTHING else NOTHING, self.content(content, where))))
+            found.append(
+                joined(
+                    "seq", (front if front[1] != NOTHING else NOTHING, self.content(content, where))
+                )
+            )
         return "elem", class_, joined("alt", tuple(found))
 
     def row(self, slots, wild):
@@ -612,7 +758,9 @@ class Schema:
                 if count[type_] == 1 or len(types.text_of(type_[1])) < 40:
                     return type_[1]
                 if type_ not in given:
-                    given[type_] = self.name_of(f"attributes {len(given) + 1} attributes_{len(given) + 1}")
+                    given[type_] = self.name_of(
+                        f"attributes {len(given) + 1} attributes_{len(given) + 1}"
+                    )
                 return "name", given[type_]
             if kind in ("seq", "alt"):
                 return joined(kind, tuple(map(named, type_[1])))
@@ -652,7 +800,6 @@ class Schema:
             text.append(type_text(name, body))
         return "".join(text), [*told, *self.not_exact()]
 
-
     def not_exact(self):
         """What the types don't say exactly, each with the types that it is said of."""
         found = {}
@@ -670,7 +817,9 @@ def write(program, told):
     for line in told[:40]:
         print(f"note: {line}", file=sys.stderr)
     if len(told) > 40:
-        print(f"note: and {len(told) - 40} more, which stand in the types' comments", file=sys.stderr)
+        print(
+            f"note: and {len(told) - 40} more, which stand in the types' comments", file=sys.stderr
+        )
     if size > LONGEST:
         raise TooLong(f"the types have {size:,} bytes, and a program at most {LONGEST:,}")
     sys.stdout.write(program)
